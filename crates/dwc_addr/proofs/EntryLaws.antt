@@ -8,11 +8,11 @@ use Rattle.std.proofs.lemmas.List.Elements.{All-nil, All-cons}
 use Rattle.dwc_base.specs.declared.records.MapFault.{MapFault}
 use Rattle.dwc_base.specs.declared.records.MapFault.TheVariants.{BodyOffset, BeforeCodeSection, Reversed, CodeFalls, CodePastBody, SourceOutside}
 use Rattle.dwc_native.specs.Functions.{AddressMap, Recorded, recorded_entry, wasm_entry, map_fault, bounds_fault, entry_fault, is_source_within}
-use Rattle.dwc_clif.specs.declared.instruction_maps.Gap.{Gap}
-use Rattle.dwc_clif.specs.declared.instruction_maps.InstructionSource.{InstructionSource}
-use Rattle.dwc_clif.specs.Gaps.{gaps_of, merged, source_view}
-use Rattle.dwc_clif.proofs.GapLaws.{gaps-counted, merged-all}
-pub use Rattle.dwc_clif.proofs.GapLaws.{recorded-merged}
+use Rattle.dwc_compiled.specs.declared.instruction_maps.Gap.{Gap}
+use Rattle.dwc_compiled.specs.declared.instruction_maps.InstructionSource.{InstructionSource}
+use Rattle.dwc_compiled.specs.Gaps.{gaps_of, merged, source_view}
+use Rattle.dwc_compiled.proofs.GapLaws.{gaps-counted, merged-all}
+pub use Rattle.dwc_compiled.proofs.GapLaws.{recorded-merged}
 use Rattle.dwc_addr.specs.Runs.{recorded_view}
 use Rattle.dwc_addr.specs.Sources.{counted_from}
 use Rattle.dwc_addr.specs.Rising.{RisesFrom}

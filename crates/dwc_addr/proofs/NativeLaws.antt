@@ -8,10 +8,10 @@ use Rattle.std.proofs.lemmas.Bool.{ltb-true, ltb-false, lt-ltb, le-ltb, eq-eqb, 
 use Rattle.std.proofs.lemmas.List.{length-map, length-drop, length-take-le, get_or-map, get_or-take, get_or-drop, get_or_default, drop_more, drop_all, nil_from_length}
 use Rattle.dwc_addr.specs.declared.address_map.AddressMap.{AddressMap}
 use Rattle.dwc_addr.specs.declared.function_map.FunctionMap.{FunctionMap}
-use Rattle.dwc_clif.specs.declared.instruction_maps.Gap.{Gap}
+use Rattle.dwc_compiled.specs.declared.instruction_maps.Gap.{Gap}
 use Rattle.dwc_native.specs.Runs.{Position}
 use Rattle.dwc_addr.specs.declared.run.Run.{Run}
-use Rattle.dwc_clif.specs.Gaps.{merged}
+use Rattle.dwc_compiled.specs.Gaps.{merged}
 use Rattle.dwc_addr.specs.Rising.{RisesFrom}
 use Rattle.dwc_addr.specs.Runs.{recorded_view}
 use Rattle.dwc_addr.specs.RunViews.{positions_of, positions_in, no_source, IsRunOf}

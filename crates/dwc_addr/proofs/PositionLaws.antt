@@ -6,8 +6,8 @@ use Rattle.std.proofs.lemmas.List.{append-nil}
 use Rattle.std.specs.List.{filter, find}
 use Rattle.dwc_native.specs.Functions.{Recorded}
 use Rattle.dwc_native.specs.Runs.{Position, native_end, source_positions}
-use Rattle.dwc_clif.specs.declared.instruction_maps.Gap.{Gap}
-use Rattle.dwc_clif.specs.Gaps.{gaps_behind, entry_of_source, merged}
+use Rattle.dwc_compiled.specs.declared.instruction_maps.Gap.{Gap}
+use Rattle.dwc_compiled.specs.Gaps.{gaps_behind, entry_of_source, merged}
 use Rattle.dwc_addr.specs.Rising.{RisesFrom}
 use Rattle.dwc_addr.proofs.JoinedLaws.{EndsInFront, EndInFront}
 use Rattle.dwc_addr.proofs.PieceLaws.{recorded_at}

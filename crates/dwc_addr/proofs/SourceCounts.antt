@@ -2,7 +2,7 @@
 use Rattle.std.proofs.Common.{◌≡◌, ℕ, ◌<◌, arith, List, map, length, get_or, ap}
 use Rattle.std.specs.List.Sorted.{IsNonDecreasingBy}
 use Rattle.std.proofs.lemmas.List.{get_or-map, length-map}
-use Rattle.dwc_clif.specs.declared.instruction_maps.InstructionSource.{InstructionSource}
+use Rattle.dwc_compiled.specs.declared.instruction_maps.InstructionSource.{InstructionSource}
 use Rattle.dwc_addr.specs.PositionPlaces.{IsCountBelow, IsCountUpTo}
 
 -- what stands past the end of entries

@@ -1,7 +1,7 @@
 -- The text of a compilation, module by module.
 use Rattle.std.proofs.Common.{◌≡◌, ℕ, ◌+◌, ◌<◌, sym, ap, ◌∙◌, List, ◌++◌, map, length, drop, get_or}
 use Rattle.std.proofs.lemmas.List.{at_drop_more, append_assoc}
-use Rattle.dwc_base.specs.declared.wasm.ModuleTranslation.{ModuleTranslation}
+use Rattle.dwc_base.specs.declared.translation.ModuleTranslation.{ModuleTranslation}
 use Rattle.dwc_addr.specs.CompilationTexts.{module_name, module_text, modules_text, comma}
 
 -- the text of modules from one on is its own and that of those behind it

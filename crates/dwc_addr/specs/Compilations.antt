@@ -3,10 +3,10 @@ use Rattle.std.specs.Prelude.{◌≡◌, ℕ, ◌<◌, ◌^◌, List, [], map, l
 use Rattle.std.specs.Option.{unwrap_or}
 use Rattle.std.specs.Global.{Global}
 use Rattle.dwc_base.specs.declared.records.Tunables.{Tunables}
-use Rattle.dwc_base.specs.declared.wasm.ModuleTranslation.{ModuleTranslation}
+use Rattle.dwc_base.specs.declared.translation.ModuleTranslation.{ModuleTranslation}
 use Rattle.dwc_native.specs.SharedSymbols.{shared_symbol}
-use Rattle.dwc_addr.specs.declared.memory_offset.ModuleMemoryOffset.{ModuleMemoryOffset}
-use Rattle.dwc_clif.specs.declared.metadata.CompiledFunctionMetadata.{CompiledFunctionMetadata}
+use Rattle.dwc_isa.specs.declared.memory_offset.ModuleMemoryOffset.{ModuleMemoryOffset}
+use Rattle.dwc_compiled.specs.declared.metadata.CompiledFunctionMetadata.{CompiledFunctionMetadata}
 use Rattle.dwc_addr.specs.Numbers.{Compiled, function_count, all_symbols, symbol_view}
 
 -- modules by their places, each with its functions in order and the offset of its memory; the bytes of a package; names of
@@ -47,7 +47,3 @@ pub record IsCounted (translations : List ModuleTranslation) (functions : List (
 -- no two functions have one symbol
 abbrev pub HasDistinctSymbols : List (List Compiled) → Type 0
 HasDistinctSymbols functions = shared_symbol (map symbol_view (all_symbols functions)) ≡ None
-
--- names have no zero byte
-abbrev pub AreNames : List ℕ → List ℕ → Type 0
-AreNames set_memory resolve_memory = All (λ b. 0 < b) set_memory × All (λ b. 0 < b) resolve_memory

@@ -3,7 +3,7 @@ use Rattle.std.specs.Prelude.{◌≡◌, ℕ, ◌+◌, List, [], ◌∷◌, map,
 use Rattle.std.specs.List.{flat_map}
 use Rattle.dwc_base.specs.declared.records.SymbolId.{SymbolId}
 use Rattle.dwc_native.specs.SharedSymbols.{shared_symbol}
-use Rattle.dwc_clif.specs.declared.metadata.CompiledFunctionMetadata.{CompiledFunctionMetadata}
+use Rattle.dwc_compiled.specs.declared.metadata.CompiledFunctionMetadata.{CompiledFunctionMetadata}
 use Rattle.dwc_addr.specs.declared.compilation_error.CompilationError.{CompilationError}
 use Rattle.dwc_addr.specs.declared.compilation_error.CompilationError.TheVariants.{SharedSymbol, OutOfMemory}
 

@@ -6,7 +6,7 @@ use Rattle.dwc_native.specs.Runs.{Position, source_positions, joined_positions}
 use Rattle.dwc_addr.specs.declared.address_map.AddressMap.{AddressMap}
 use Rattle.dwc_addr.specs.declared.function_map.FunctionMap.{FunctionMap}
 use Rattle.dwc_addr.specs.declared.run.Run.{Run}
-use Rattle.dwc_clif.specs.Gaps.{merged}
+use Rattle.dwc_compiled.specs.Gaps.{merged}
 pub use Rattle.dwc_addr.specs.RunBounds.{no_source}
 use Rattle.dwc_addr.specs.Runs.{recorded_view}
 

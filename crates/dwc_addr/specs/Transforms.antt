@@ -4,7 +4,7 @@ use Rattle.std.specs.Option.{unwrap_or, option_or}
 use Rattle.dwc_base.specs.declared.records.MapFault.{MapFault}
 use Rattle.dwc_native.specs.Functions.{AddressMap, Function, map_fault, functions_of}
 use Rattle.dwc_addr.specs.declared.function_map.FunctionMap.{FunctionMap}
-use Rattle.dwc_clif.specs.Gaps.{merged}
+use Rattle.dwc_compiled.specs.Gaps.{merged}
 use Rattle.dwc_addr.specs.Runs.{recorded_view}
 use Rattle.dwc_addr.specs.declared.error.AddrError.{AddrError}
 use Rattle.dwc_addr.specs.declared.error.AddrError.TheVariants.{BadAddressMap, OutOfMemory}

@@ -7,7 +7,7 @@ pub type GeneratedAddress = usize;
 pub type WasmAddress = u64;
 
 /// Where the code of a source begins, and the source. Each takes four bytes: no offset of a function's code or of a wasm file has more.
-#[derive(Clone, Copy, Debug, PartialEq, Eq)]
+#[derive(Clone, Copy)]
 pub struct AddressMap {
     /// A `GeneratedAddress`.
     pub generated: u32,

@@ -7,7 +7,7 @@ use crate::sources::Sources;
 use std::alloc::{AllocError, Global};
 
 /// Where a run, or a block of runs, begins and ends in the wasm file.
-#[derive(Clone, Copy, Debug, PartialEq, Eq)]
+#[derive(Clone, Copy)]
 pub struct Bounds {
     pub begin: u32,
     pub end: u32,

@@ -2,13 +2,15 @@
 ghost use Rattle.std.specs.Prelude.{◌≡◌, ◌+◌, ◌<◌, ◌%◌, ◌^◌, map, length, slice_get, option_map, All, Some, IfOk};
 ghost use Rattle.dwc_base.specs.TranslationNames.{HasSortedNames};
 ghost use Rattle.dwc_addr.specs.Numbers.{first_number, all_symbols, AreDistinct};
-ghost use Rattle.dwc_addr.specs.Compilations.{CompilationValue, lists, functions_at, numbered, IsCounted, HasDistinctSymbols, AreNames};
+ghost use Rattle.dwc_addr.specs.Compilations.{CompilationValue, lists, functions_at, numbered, IsCounted, HasDistinctSymbols};
+ghost use Rattle.dwc_isa.specs.ToldModules.{AreNames};
 
 use crate::compilation_text::write_compilation;
 use crate::symbols::{all_symbols, check_distinct, first_numbers};
 use crate::{CompilationError, LinkageNames, ModuleMemoryOffset};
 use dwc_base::{DefinedFuncIndex, ModuleTranslation, StaticModuleIndex, SymbolId, Tunables};
-use dwc_clif::{CompiledFunctionMetadata, TargetIsa};
+use dwc_compiled::CompiledFunctionMetadata;
+use dwc_isa::TargetIsa;
 use std::alloc::Global;
 use std::fmt;
 use std::fmt::{Debug, Formatter, Write};
@@ -35,9 +37,10 @@ impl<'a> Model for Compilation<'a> {
     ghost use Rattle.std.specs.Prelude.{◌≡◌, All, option_map};
     ghost use Rattle.dwc_base.specs.TranslationNames.{HasSortedNames};
     ghost use Rattle.std.specs.Coded.{codes};
-    ghost use Rattle.dwc_clif.specs.ValueLabels.{labelled_code};
+    ghost use Rattle.dwc_isa.specs.ValueLabels.{labelled_code};
     ghost use Rattle.dwc_addr.specs.Numbers.{numbers_from, all_symbols};
-    ghost use Rattle.dwc_addr.specs.Compilations.{CompilationValue, lists, IsCounted, HasDistinctSymbols, AreNames};
+    ghost use Rattle.dwc_addr.specs.Compilations.{CompilationValue, lists, IsCounted, HasDistinctSymbols};
+    ghost use Rattle.dwc_isa.specs.ToldModules.{AreNames};
 
     ghost Value = { CompilationValue };
 

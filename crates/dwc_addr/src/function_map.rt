@@ -1,14 +1,14 @@
 //! A defined function as an address transform keeps it.
 ghost use Rattle.std.specs.Prelude.{◌≡◌, ◌<◌, ◌≤◌, ◌^◌, length, map};
 ghost use Rattle.std.specs.List.Sorted.{IsNonDecreasingBy};
-ghost use Rattle.dwc_clif.specs.Gaps.{merged};
+ghost use Rattle.dwc_compiled.specs.Gaps.{merged};
 ghost use Rattle.dwc_addr.specs.Runs.{recorded_view, run_starts};
 ghost use Rattle.dwc_addr.specs.RunBounds.{wasm_begin, wasm_end as wasm_end_of, AreRunBounds, AreBlockBounds};
 
 use crate::address_map::{GeneratedAddress, WasmAddress};
 use crate::bounds::Bounds;
 use crate::sources::Sources;
-use dwc_clif::Gap;
+use dwc_compiled::Gap;
 
 /// A defined function, with the entries of its address map as they stand there.
 #[derive(Drop)]

@@ -7,7 +7,7 @@ use crate::by_start::start_of;
 use crate::function_map::FunctionMap;
 use crate::near::WINDOW;
 use crate::sources::Sources;
-use dwc_clif::{Gap, capacity};
+use dwc_compiled::{Gap, capacity};
 use std::alloc::{AllocError, Global};
 
 // So many sources stand in a block of wasm offsets on average, at least.

@@ -14,7 +14,6 @@ mod hints;
 mod laws;
 mod linkage_names;
 mod maps;
-mod memory_offset;
 mod near;
 mod positions;
 mod ranges;
@@ -29,6 +28,7 @@ pub use address_map::{AddressMap, GeneratedAddress, WasmAddress};
 pub use bounds::Bounds;
 pub use compilation::Compilation;
 pub use compilation_error::CompilationError;
+pub use dwc_isa::ModuleMemoryOffset;
 pub use error::AddrError;
 pub use function_map::FunctionMap;
 pub use laws::{
@@ -36,7 +36,6 @@ pub use laws::{
 };
 pub use linkage_names::LinkageNames;
 pub use maps::{get_wasm_code_offset, map_fault};
-pub use memory_offset::ModuleMemoryOffset;
 pub use ranges::{RawRanges, TranslatedRanges};
 pub use sources::Sources;
 pub use transform::AddressTransform;

@@ -2,12 +2,12 @@
 ghost use Rattle.std.specs.Prelude.{◌≡◌, ◌<◌, ◌≤◌, ◌^◌, ◌-◌, ◌&&◌, nat_le, None, IsSome};
 ghost use Rattle.std.specs.Option.{unwrap_or};
 ghost use Rattle.dwc_native.specs.Functions.{map_fault, entry_fault, is_source_within};
-ghost use Rattle.dwc_clif.specs.AddressMaps.{address_map_view};
+ghost use Rattle.dwc_compiled.specs.AddressMaps.{address_map_view};
 ghost use Rattle.dwc_addr.specs.Transforms.{wasm_code_offset};
 
 use crate::WasmAddress;
 use dwc_base::{FilePos, MapFault};
-use dwc_clif::{CompiledFunctionMetadata, InstructionMaps};
+use dwc_compiled::{CompiledFunctionMetadata, InstructionMaps};
 
 /// The first rule that the address map of a compiled function breaks, none where it is good. In this order: the body begins
 /// at 0; start and end are there; the code section's contents, at `code_section_offset` of the wasm file, do not begin behind

@@ -7,7 +7,7 @@ ghost use Rattle.dwc_addr.specs.PositionPlaces.{AreBelow, IsCountBelow};
 
 use crate::address_map::WasmAddress;
 use crate::sources::Sources;
-use dwc_clif::Gap;
+use dwc_compiled::Gap;
 
 // So many sources, or gaps, are counted from where a hint says, without a branch.
 pub(crate) const WINDOW: usize = 12;

@@ -13,7 +13,7 @@ use crate::hints::{gap_hint, source_hint};
 use crate::near::{gaps_before, sources_below};
 use crate::run::Run;
 use crate::sources::Sources;
-use dwc_clif::Gap;
+use dwc_compiled::Gap;
 
 // Where the first entry begins that has no source and in front of which so many with one stand.
 fn gap_behind(gaps: &[Gap], hint: usize, before: usize) -> Option<GeneratedAddress>

@@ -1,5 +1,5 @@
 //! The entries of a function's address map that have a source, as they stand in the map.
-ghost use Rattle.std.specs.Prelude.{◌≡◌, ◌<◌, ◌≤◌, ◌-◌, ◌^◌, ◌==◌, map, length, take, drop, slice_index_or, slice_get};
+ghost use Rattle.std.specs.Prelude.{◌≡◌, ◌<◌, ◌≤◌, ◌-◌, ◌^◌, map, length, take, drop, slice_index_or, slice_get};
 ghost use Rattle.std.specs.List.Sorted.{IsNonDecreasingBy};
 ghost use Rattle.dwc_addr.specs.declared.address_map.AddressMap.{AddressMap};
 ghost use Rattle.dwc_addr.specs.PositionPlaces.{IsCountBelow, IsCountUpTo};
@@ -7,7 +7,7 @@ ghost use Rattle.dwc_addr.specs.Sources.{counted_from};
 
 use crate::address_map::{AddressMap, GeneratedAddress, WasmAddress};
 use crate::near::WINDOW;
-use dwc_clif::InstructionSource;
+use dwc_compiled::InstructionSource;
 use std::marker::Model;
 
 /// The entries of an address map that have a source, in order, as the map has them. A source is counted from the contents of the code section,
@@ -46,13 +46,6 @@ impl<'a> Sources<'a> {
         ensures few { length self.now < 2 ^ 63 }
     {
         self.entries.len()
-    }
-
-    /// Whether there are none.
-    pub fn is_empty(&self) -> bool
-        ensures { result ≡ (length self.now == 0) }
-    {
-        self.entries.is_empty()
     }
 
     /// The one at a place.

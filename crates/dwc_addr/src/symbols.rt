@@ -7,7 +7,7 @@ ghost use Rattle.dwc_addr.specs.Compilations.{lists};
 
 use crate::CompilationError;
 use dwc_base::SymbolId;
-use dwc_clif::CompiledFunctionMetadata;
+use dwc_compiled::CompiledFunctionMetadata;
 use std::alloc::{AllocError, Global};
 use std::collections::BTreeMap;
 

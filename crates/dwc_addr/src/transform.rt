@@ -2,7 +2,7 @@
 ghost use Rattle.std.specs.Prelude.{◌≡◌, ◌-◌, ◌+◌, ◌<◌, ◌≤◌, ◌^◌, ℕ, length, map, slice_get, option_map, Some, None, IfOk, IfSome, IsSome, vec_len};
 ghost use Rattle.std.specs.Option.{unwrap_or};
 ghost use Rattle.dwc_native.specs.Functions.{map_fault as first_fault, function_of, owner, function_at};
-ghost use Rattle.dwc_clif.specs.AddressMaps.{address_map_view};
+ghost use Rattle.dwc_compiled.specs.AddressMaps.{address_map_view};
 ghost use Rattle.dwc_addr.specs.Transforms.{function_view, Transforms};
 ghost use Rattle.dwc_addr.specs.Numbers.{first_number};
 ghost use Rattle.dwc_addr.specs.Compilations.{functions_at, code_offset_at};
@@ -19,7 +19,7 @@ use crate::hints::{StartHints, gap_hints, source_hints, start_hints};
 use crate::maps::map_fault;
 use crate::sources::Sources;
 use dwc_base::{DefinedFuncIndex, FilePos, StaticModuleIndex, SymbolId};
-use dwc_clif::CompiledFunctionMetadata;
+use dwc_compiled::CompiledFunctionMetadata;
 use std::alloc::{AllocError, Global};
 use std::marker::Model;
 

@@ -1,14 +1,16 @@
 -- Sections by their names and titles.
-use Rattle.std.proofs.Common.{◌≡◌, List, [], ◌∷◌, ℕ, ◌<◌, ◌^◌, length, arith, Bool, true, false, cond, refl, ap, ◌∙◌, Option, Some, None}
-use Rattle.std.specs.List.{find}
+use Rattle.std.proofs.Common.{◌≡◌, List, [], ◌∷◌, ◌++◌, ◌≢◌, ℕ, ◌<◌, ◌^◌, length, arith, Bool, true, false, cond, refl, sym, ap, ◌∙◌, Option, Some, None}
+use Rattle.std.specs.Prelude.{codes, not}
+use Rattle.std.specs.List.{find, list_all}
+use Rattle.std.proofs.lemmas.List.{append_cancel_right}
 use Rattle.std.specs.Str.{bytes_eq}
 use Rattle.std.proofs.lemmas.Slice.Eq.{bytes_eq-Decides}
 use Rattle.dwc_base.specs.declared.section_name.SectionName.{SectionName}
 use Rattle.dwc_base.specs.declared.section_name.SectionName.TheVariants.{Abbrev, Addr, Info, Line, LineStr, Loc, Loclists, Ranges, Rnglists, Str, StrOffsets, CuIndex, Frame}
 use Rattle.dwc_base.specs.declared.section_bytes.SectionBytes.{SectionBytes}
 use Rattle.dwc_base.specs.declared.wasm_sections.WasmSections.{WasmSections}
-use Rattle.dwc_base.specs.Sections.{section_text}
-use Rattle.dwc_base.specs.Translations.{section_bytes, with_section, titled_bytes, input_sections, section_titled}
+use Rattle.dwc_base.specs.Sections.{section_text, split_text}
+use Rattle.dwc_base.specs.Translations.{section_bytes, with_section, titled_bytes, split_bytes, input_sections, section_titled}
 
 -- no section is longer than 2 ^ 32 - 1 bytes
 pub section_bytes-short : (s : WasmSections) (name : SectionName) → length (section_bytes s name) < 2 ^ 32
@@ -76,3 +78,35 @@ other_title title text before contents name found none = go (bytes_eq title text
 pub noted-untitled : (title contents before : List ℕ) (at : SectionName) → section_titled title ≡ None → before ≡ titled_bytes at title contents before
 noted-untitled title contents before Frame h = refl
 noted-untitled title contents before at h = other_title title (section_text at) before contents at refl h
+
+-- ---- sections of split units
+
+-- two tests that hold at the same time
+same-test : (a b : Bool) → (a ≡ true → b ≡ true) → (b ≡ true → a ≡ true) → a ≡ b
+same-test true b to from = sym (to refl)
+same-test false true to from = from refl
+same-test false false to from = refl
+
+-- texts with one suffix are equal where they are without it
+bytes_eq-suffix : (xs ys end : List ℕ) → bytes_eq xs ys ≡ bytes_eq (xs ++ end) (ys ++ end)
+bytes_eq-suffix xs ys end = same-test (bytes_eq xs ys) (bytes_eq (xs ++ end) (ys ++ end))
+    (λ h. (bytes_eq-Decides (xs ++ end) (ys ++ end)).1 (ap (λ zs. zs ++ end) (bytes_eq-true xs ys h)))
+    (λ h. (bytes_eq-Decides xs ys).1 (append_cancel_right xs ys end (bytes_eq-true (xs ++ end) (ys ++ end) h)))
+
+-- a title with the suffix is that of the section of split units which the title without it names
+pub split-titled : (front contents before : List ℕ) (at : SectionName) → titled_bytes at front contents before ≡ split_bytes at (front ++ codes ".dwo") contents before
+split-titled front contents before Frame = refl
+split-titled front contents before at = ap (λ b. cond b contents before) (bytes_eq-suffix front (section_text at) (codes ".dwo"))
+
+-- a title without the suffix is that of none
+pub split-untitled : (title contents before : List ℕ) (at : SectionName) → ((front : List ℕ) → title ≢ front ++ codes ".dwo") → before ≡ split_bytes at title contents before
+split-untitled title contents before Frame h = refl
+split-untitled title contents before at h = go (bytes_eq title (split_text at)) refl
+  where
+    go : (b : Bool) → bytes_eq title (split_text at) ≡ b → before ≡ cond b contents before
+    go true e = absurd (h (section_text at) (bytes_eq-true title (split_text at) e))
+    go false e = refl
+
+-- no section of split units has the title of another section
+split-apart : list_all (λ at. list_all (λ other. not (bytes_eq (split_text at) (section_text other))) input_sections) input_sections ≡ true
+split-apart = refl

@@ -9,16 +9,14 @@ pub mod Wasm
 pub mod SortedEntries
 pub mod WasmVectors
 pub mod WasmFunctions
-pub mod LentTypes
 pub mod WasmNames
 pub mod ToldFiles
 pub mod TranslationNames
-pub mod NamesRead
 pub mod Places
 pub mod Outputs
 pub mod Lebs
 pub mod Cursors
-pub mod FunctionSections
 pub mod Translations
 pub mod CodeOffsets
 pub mod FieldSizes
+pub mod Ledgers

@@ -1,5 +1,5 @@
 -- The sections that hold DWARF, and the address fields in them.
-use Rattle.std.specs.Prelude.{ℕ, ◌==◌, ℤ, List, Bool, if◌then◌else◌, drop, ◌&&◌, Option, Some, None, Result, Ok, Err, codes}
+use Rattle.std.specs.Prelude.{ℕ, ◌==◌, ℤ, List, ◌++◌, Bool, if◌then◌else◌, drop, ◌&&◌, Option, Some, None, Result, Ok, Err, codes}
 use Rattle.std.specs.List.{find}
 use Rattle.dwc_base.specs.declared.records.Endian.{Endian}
 use Rattle.dwc_base.specs.declared.section_name.SectionName.{SectionName}
@@ -27,6 +27,10 @@ section_text Str = codes ".debug_str"
 section_text StrOffsets = codes ".debug_str_offsets"
 section_text CuIndex = codes ".debug_cu_index"
 section_text Frame = codes ".debug_frame"
+
+-- the name of a section of split units (DWARF 5, section 7.3.2.2)
+abbrev pub split_text : SectionName → List ℕ
+split_text name = section_text name ++ codes ".dwo"
 
 -- a field that is to hold the address of a function plus an addend
 pub record Relocation : Type 0 where

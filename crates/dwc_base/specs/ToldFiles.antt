@@ -1,7 +1,7 @@
 -- What a WebAssembly file tells of a module's functions beside their code: their names, and the types of their locals. (WebAssembly 1.0,
 -- sections 2.3.1 and 2.5.3; the custom section `name` is that of section 7.4.1.)
 use Rattle.std.specs.Prelude.{ℕ, ◌-◌, List, [], ◌∷◌, length, Bool, nat_lt, if◌then◌else◌, slice_get, Option, None, Some}
-use Rattle.dwc_base.specs.declared.wasm.ValType.{ValType}
+use Rattle.dwc_base.specs.declared.translation.ValType.{ValType}
 use Rattle.dwc_base.specs.Wasm.{WasmModule}
 use Rattle.dwc_base.specs.WasmFunctions.{LocalTypes, local_types}
 use Rattle.dwc_base.specs.WasmNames.{name_of_module, names_of_functions, names_of_locals}

@@ -1,14 +1,23 @@
 -- What the reader of WebAssembly files tells of names and of the types of locals.
 use Rattle.std.specs.Prelude.{◌≡◌, ℕ, List, map, Option, option_map}
+use Rattle.std.specs.Borrow.{Bor}
 use Rattle.std.specs.List.Sorted.{IsStrictlySortedBy}
 use Rattle.std.specs.Ordering.{nat_cmp}
-use Rattle.dwc_base.specs.declared.wasm.FunctionMeta.{FunctionMeta}
-use Rattle.dwc_base.specs.declared.wasm.ModuleTranslation.{ModuleTranslation}
+use Rattle.dwc_base.specs.declared.translation.FunctionMeta.{FunctionMeta}
+use Rattle.dwc_base.specs.declared.translation.ModuleTranslation.{ModuleTranslation}
 use Rattle.dwc_base.specs.SortedEntries.{pair_cmp}
 use Rattle.dwc_base.specs.Wasm.{WasmModule}
 use Rattle.dwc_base.specs.ToldFiles.{ToldFile}
 use Rattle.dwc_base.specs.WasmFunctions.{LocalTypes, local_types}
 use Rattle.dwc_base.specs.WasmNames.{name_of_module, names_of_functions, names_of_locals}
+
+-- a number and a name
+abbrev pub function_name_view : ℕ × Bor (List ℕ) → ℕ × List ℕ
+function_name_view n = (n.0, (n.1).now)
+
+-- the number of a function, that of its local, and a name
+abbrev pub local_name_view : ℕ × ℕ × Bor (List ℕ) → (ℕ × ℕ) × List ℕ
+local_name_view n = ((n.0, n.1), (n.2).now)
 
 -- the name of a module that a translation tells
 abbrev pub told_module_name : ModuleTranslation → Option (List ℕ)

@@ -10,7 +10,7 @@ use Rattle.dwc_base.specs.declared.section_name.SectionName.{SectionName}
 use Rattle.dwc_base.specs.declared.section_name.SectionName.TheVariants.{Frame}
 use Rattle.dwc_base.specs.Reading.{Unread, Read, ◌>>=◌, forbid, bytes_at, part_at, number_at, uleb_at}
 use Rattle.dwc_base.specs.Listing.{Listing, Next, at_end, broken, item, walk}
-use Rattle.dwc_base.specs.Sections.{Sections, section_text}
+use Rattle.dwc_base.specs.Sections.{Sections, section_text, split_text}
 
 -- what reading a part of the file gives, or the place of the first field that breaks the grammar
 abbrev pub FileRead : Type 0 → Type 0
@@ -269,6 +269,11 @@ wasm_module bytes = do
 abbrev pub held : WasmModule → SectionName → List ℕ
 held m Frame = []
 held m name = custom_section (section_text name) m.sections
+
+-- What a module holds of a section of split units, as a package has them. (DWARF 5, sections 7.3.2.2 and 7.3.5.)
+abbrev pub held_split : WasmModule → SectionName → List ℕ
+held_split m Frame = []
+held_split m name = custom_section (split_text name) m.sections
 
 -- the DWARF sections of a module, as input: its numbers are little-endian, and it has no relocations
 abbrev pub module_sections : WasmModule → Sections

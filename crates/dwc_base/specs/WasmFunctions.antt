@@ -4,8 +4,8 @@ use Rattle.std.specs.Prelude.{ℕ, ◌==◌, List, [], ◌∷◌, map, if◌then
 use Rattle.std.specs.Option.{unwrap_or}
 use Rattle.std.specs.List.{filter_map}
 use Rattle.dwc_base.specs.declared.records.Endian.TheVariants.{Little}
-use Rattle.dwc_base.specs.declared.wasm.ValType.{ValType}
-use Rattle.dwc_base.specs.declared.wasm.ValType.TheVariants.{I32, I64, F32, F64, Other}
+use Rattle.dwc_base.specs.declared.translation.ValType.{ValType}
+use Rattle.dwc_base.specs.declared.translation.ValType.TheVariants.{I32, I64, F32, F64, Other}
 use Rattle.dwc_base.specs.Reading.{Unread, Read, ◌>>=◌, coded, bytes_at, part_at, number_at, uleb_at}
 use Rattle.dwc_base.specs.Wasm.{u32_at, byte_at, Contents, custom, imports, functions, code, other, WasmModule, last_of}
 use Rattle.dwc_base.specs.WasmVectors.{vector_at, readable_vector}

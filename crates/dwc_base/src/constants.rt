@@ -462,6 +462,21 @@ pub const DW_LLE_start_end: u8 = 0x07;
 
 pub const DW_LLE_start_length: u8 = 0x08;
 
+// Sections of split units in the index of a package, from version 5 on. (DWARF 5, section 7.3.5.3, table 7.1.)
+pub const DW_SECT_INFO: u32 = 0x01;
+
+pub const DW_SECT_ABBREV: u32 = 0x03;
+
+pub const DW_SECT_LINE: u32 = 0x04;
+
+pub const DW_SECT_LOCLISTS: u32 = 0x05;
+
+pub const DW_SECT_STR_OFFSETS: u32 = 0x06;
+
+pub const DW_SECT_MACRO: u32 = 0x07;
+
+pub const DW_SECT_RNGLISTS: u32 = 0x08;
+
 // Instructions of call frames; those with an operand in their low six bits stand with zeros there. (DWARF 5, section 7.24.)
 pub const DW_CFA_nop: u8 = 0x00;
 

@@ -18,7 +18,7 @@ pub enum What {
 }
 
 /// What is refused by name.
-#[derive(Clone, Copy, Debug, PartialEq, Eq)]
+#[derive(Clone, Copy, Debug)]
 pub enum Kind {
     /// The 64-bit format of DWARF.
     Format64,
@@ -37,7 +37,7 @@ pub enum Kind {
 }
 
 /// What can grow too large.
-#[derive(Clone, Copy, Debug, PartialEq, Eq)]
+#[derive(Clone, Copy, Debug)]
 pub enum Limit {
     /// A section of more than 2^31 - 1 bytes.
     Section(SectionName),
@@ -55,7 +55,7 @@ pub enum Limit {
 
 /// Why bytes do not spell what is read: they end too early, a number of variable length does not fit 64 bits, the grammar
 /// has no such thing, or it is of a kind that is refused by name.
-#[derive(Clone, Copy, Debug, PartialEq, Eq)]
+#[derive(Clone, Copy)]
 pub enum Flaw {
     EndsEarly,
     TooWide,
@@ -64,7 +64,7 @@ pub enum Flaw {
 }
 
 /// Why something is not read: for want of memory, or for its bytes.
-#[derive(Clone, Copy, Debug, PartialEq, Eq)]
+#[derive(Clone, Copy)]
 pub enum NotRead {
     OutOfMemory,
     Flawed(Flaw),

@@ -1,34 +1,30 @@
-//! What the readers and the writer of DWARF share: a cursor over bytes, the reader of WebAssembly files, the records that
-//! pass between the crates, and (in `specs/`) the definitions of DWARF that every contract above cites.
+//! What the readers and the writer of DWARF share: a cursor over bytes, the records that pass between the crates, and (in
+//! `specs/`) the definitions of bytes, of WebAssembly files and of the headers of DWARF that every contract above cites.
 #![tactic(auto)]
 
 pub mod constants;
 mod cursor;
 mod faults;
 pub mod fields;
-mod function_sections;
-mod imports;
 mod leb128;
+mod ledger;
 mod output;
 mod records;
 mod relocations;
 mod section_bytes;
 mod section_name;
-mod wasm;
-mod wasm_fields;
-mod wasm_functions;
-mod wasm_names;
+mod translation;
 mod wasm_sections;
-mod wasm_walk;
 
 pub use cursor::{Cursor, CursorFault};
 pub use faults::{Flaw, Kind, Limit, NotRead, What};
+pub use ledger::{Counting, Ledger, Silent, Steps};
 pub use output::{DwarfSection, DwarfSectionReloc, DwarfSectionRelocTarget};
 pub use records::{
-    Address, DefinedFuncIndex, Encoding, Endian, FilePos, LineRow, MapFault, ModulePC,
+    Address, DefinedFuncIndex, Encoding, Endian, FilePos, FuncKey, LineRow, MapFault, ModulePC,
     StaticModuleIndex, SymbolId, Tunables,
 };
 pub use relocations::Relocations;
 pub use section_name::SectionName;
-pub use wasm::{FunctionMeta, ModuleTranslation, ValType, WasmFault, split_wasm};
+pub use translation::{FunctionMeta, ModuleTranslation, ValType};
 pub use wasm_sections::WasmSections;

@@ -4,7 +4,7 @@ ghost use Rattle.std.specs.Prelude.{◌≡◌, ◌<◌, ◌^◌, ◌-◌, Some, 
 use std::marker::Model;
 
 /// The order of the bytes of a number.
-#[derive(Clone, Copy, Debug, PartialEq, Eq)]
+#[derive(Clone, Copy)]
 pub enum Endian {
     Little,
     Big,
@@ -18,14 +18,14 @@ pub enum Address {
 }
 
 /// How a unit spells its numbers: its version of DWARF, and the bytes of an address.
-#[derive(Clone, Copy, Debug, PartialEq, Eq)]
+#[derive(Clone, Copy)]
 pub struct Encoding {
     pub version: u16,
     pub address_size: u8,
 }
 
 /// A row of a line table (DWARF 4, section 6.2.2): its offset from the last `DW_LNE_set_address`, its file by number.
-#[derive(Clone, Copy, Debug, PartialEq, Eq)]
+#[derive(Clone, Copy)]
 pub struct LineRow {
     pub offset: u64,
     pub file: u64,
@@ -40,7 +40,7 @@ pub struct LineRow {
 }
 
 /// The rule that an address map breaks.
-#[derive(Clone, Copy, Debug, PartialEq, Eq)]
+#[derive(Clone, Copy, Debug)]
 pub enum MapFault {
     /// The body does not begin at 0.
     BodyOffset,
@@ -59,19 +59,30 @@ pub enum MapFault {
 }
 
 /// The symbol of a compiled function.
-#[derive(Clone, Copy, Debug, PartialEq, Eq)]
+#[derive(Clone, Copy)]
 pub struct SymbolId(pub u32);
 
 /// A defined function of a module, by its place among them.
-#[derive(Clone, Copy, Debug, PartialEq, Eq)]
+#[derive(Clone, Copy, PartialEq, Eq)]
 pub struct DefinedFuncIndex(pub u32);
 
 /// A module, by its place among those that are compiled together.
-#[derive(Clone, Copy, Debug, PartialEq, Eq)]
+#[derive(Clone, Copy, PartialEq, Eq)]
 pub struct StaticModuleIndex(pub u32);
 
+/// What a relocation of compiled code refers to.
+#[derive(Clone, Copy, PartialEq, Eq)]
+pub enum FuncKey {
+    /// A function that a module defines.
+    DefinedWasmFunction(StaticModuleIndex, DefinedFuncIndex),
+    /// The call of a function of the host, by its number, from Pulley's bytecode.
+    PulleyHostCall(u32),
+    /// Anything else, by two numbers of the code generator.
+    Other(u32, u32),
+}
+
 /// A place in the native code of a module.
-#[derive(Clone, Copy, Debug, PartialEq, Eq)]
+#[derive(Clone, Copy)]
 pub struct ModulePC(u32);
 
 impl ModulePC {
@@ -91,7 +102,7 @@ impl ModulePC {
 }
 
 /// How code is generated and laid out.
-#[derive(Clone, Copy, Debug, PartialEq, Eq)]
+#[derive(Clone, Copy)]
 pub struct Tunables {
     /// Whether functions have symbols of their own in an object file.
     pub debug_symbols: bool,
@@ -99,10 +110,12 @@ pub struct Tunables {
     pub page_align: u64,
     /// Whether traps that a program cannot cause are told too.
     pub internal_traps: bool,
+    /// The version of DWARF that is written: 4 or 5.
+    pub dwarf_version: u16,
 }
 
 /// A place in a wasm file, or no place. A contract sees its offset, if it has one.
-#[derive(Clone, Copy, Debug, PartialEq, Eq)]
+#[derive(Clone, Copy)]
 pub struct FilePos {
     // The offset, or `NO_PLACE`.
     offset: u32,

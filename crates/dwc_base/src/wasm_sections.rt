@@ -4,10 +4,13 @@ ghost use Rattle.dwc_base.specs.declared.section_name.SectionName.{SectionName};
 ghost use Rattle.std.specs.List.{find};
 ghost use Rattle.std.specs.Str.{bytes_eq};
 ghost use Rattle.dwc_base.specs.Sections.{section_text};
-ghost use Rattle.dwc_base.specs.Translations.{section_bytes, with_section, titled_bytes, section_titled};
+ghost use Rattle.dwc_base.specs.Translations.{section_bytes, with_section, titled_bytes, split_bytes, section_titled};
 
 use crate::SectionName;
 use crate::section_bytes::SectionBytes;
+
+// What the titles of sections of split units end in.
+const SPLIT_SUFFIX: &[u8] = b".dwo";
 
 // The sections of an input: all but the frames.
 const INPUT_SECTIONS: [SectionName; 12] = [
@@ -87,11 +90,22 @@ impl<'d> WasmSections<'d> {
     }
 
     /// Takes note of a custom section: of two with one title the later counts.
-    pub fn note(&mut self, title: &str, contents: SectionBytes<'d>)
-        ensures { (name : SectionName) → section_bytes self.new name ≡ titled_bytes name title.now contents.entry.bytes.now (section_bytes self.old name) }
+    pub fn note(&mut self, title: &[u8], contents: &'d [u8])
+        requires { length contents.now < 2 ^ 32 }
+        ensures { (name : SectionName) → section_bytes self.new name ≡ titled_bytes name title.now contents.now (section_bytes self.old name) }
     {
         if let Some(name) = section_titled(title) {
-            self.set(name, contents);
+            self.set(name, SectionBytes { bytes: contents });
+        }
+    }
+
+    /// Takes note of a custom section as one of split units, whose titles have the suffix `.dwo`: likewise. (DWARF 5, section 7.3.2.2.)
+    pub fn note_split(&mut self, title: &[u8], contents: &'d [u8])
+        requires { length contents.now < 2 ^ 32 }
+        ensures { (name : SectionName) → section_bytes self.new name ≡ split_bytes name title.now contents.now (section_bytes self.old name) }
+    {
+        if let Some(front) = title.strip_suffix(SPLIT_SUFFIX) {
+            self.note(front, contents);
         }
     }
 
@@ -118,18 +132,18 @@ impl<'d> WasmSections<'d> {
 }
 
 // The section of an input that has a title, if there is one.
-fn section_titled(title: &str) -> Option<SectionName>
+fn section_titled(title: &[u8]) -> Option<SectionName>
     ensures { result ≡ section_titled title.now }
 {
     find_titled(&INPUT_SECTIONS, title)
 }
 
 // The first of some sections that has a title.
-fn find_titled(names: &[SectionName], title: &str) -> Option<SectionName>
+fn find_titled(names: &[SectionName], title: &[u8]) -> Option<SectionName>
     ensures { result ≡ find (λ name. bytes_eq (section_text name) title.now) names.now }
 {
     for name in names {
-        if name.text() == title {
+        if name.text().as_bytes() == title {
             return Some(*name);
         }
     }

@@ -12,15 +12,15 @@ use Rattle.dwc_rules.specs.Carried.{Module, Compilation}
 use Rattle.dwc_dwarf.specs.ReadUnits.{Unit}
 use Rattle.dwc_rules.specs.KeptModules.{carried_in, kept_in}
 use Rattle.dwc_dwarf.specs.Trees.{Location, text, locations, entry, TreeEntry, Tree, set_in_order}
-use Rattle.dwc_rules.specs.Drafts.{Goal, Draft, itself, own_entry}
+use Rattle.dwc_rules.specs.Drafts.{Goal, Draft, itself, synthetic_entry}
 use Rattle.dwc_rules.specs.DraftForests.{is_made_of, settled_entry}
-use Rattle.dwc_rules.specs.OwnUnits.{place_of_context_pointer}
+use Rattle.dwc_rules.specs.SyntheticUnit.{place_of_context_pointer}
 use Rattle.dwc_native.specs.Parts.{context_label}
 use Rattle.dwc_native.specs.Placed.{Frame}
 use Rattle.dwc_native.specs.BuiltExpressions.{BuildRefusal, label_over}
 use Rattle.dwc_rules.specs.LocationRules.{ExpressionSource, in_force_at}
 use Rattle.dwc_rules.specs.Wrappers.{is_wrapped, wrapper, wrapper_types, wrapper_refusals}
-use Rattle.dwc_rules.specs.ContextVariable.{context_in, context_over, context_pointer, context_variable, context_entries, located_or_none, location_refusals}
+use Rattle.dwc_rules.specs.ContextVariable.{context_in, context_over, context_pointer, context_variable, context_entries, locations_or_none, location_refusals}
 use Rattle.dwc_rules.specs.Clones.{entry_refusals, attributes_become, if_refused}
 use Rattle.dwc_rules.specs.EntryRules.{of_build, wrappers_of, refused_behind}
 use Rattle.dwc_rules.specs.CarriedDrafts.{source_of, draft_told, entry_made}
@@ -30,7 +30,7 @@ use Rattle.dwc_carried.specs.ContextsCarried.{IsContext, BeginWithContext, Carri
 use Rattle.dwc_carried.specs.Forests.{rules_of, wanted_units, is_big, drafts_of, first_refusal, module_refusals, trees_made}
 use Rattle.dwc_rules.specs.ModuleDrafts.{expressions_of}
 use Rattle.dwc_rules.specs.CarriedUnits.{kept_of}
-use Rattle.dwc_carried.specs.ListedFunctions.{is_begun}
+use Rattle.dwc_carried.specs.SimulatedFunctions.{is_begun}
 use Rattle.dwc_base.proofs.InLists.{IsIn, contains-in}
 use Rattle.dwc_carried.proofs.EntryOffsets.{same-entry, kept-placed, carried-read}
 use Rattle.dwc_rules.proofs.ForestLaws.{Each}
@@ -57,7 +57,7 @@ is-context fs frame depth scope ls (Some p) says = record { below = refl; tag = 
 
 -- what an entry gets where the context lies somewhere, or not
 abbrev entries_for : ExpressionSource → Placed → Option (Result (List Location) BuildRefusal) → List Draft
-entries_for c p o = option_to_list (option_map (λ located. context_variable (suc p.entry.depth) (context_pointer c) (located_or_none located)) o)
+entries_for c p o = option_to_list (option_map (λ located. context_variable (suc p.entry.depth) (context_pointer c) (locations_or_none located)) o)
 
 module _ (c : ExpressionSource) (keep : TranslationsKeepScopes c.functions) (numbered : AreNumbered c.functions) (places : Goal → Option (ℕ × ℕ)) where
   -- Behind a subprogram stands the variable of the context, if that is not refused.
@@ -82,7 +82,7 @@ module _ (c : ExpressionSource) (keep : TranslationsKeepScopes c.functions) (num
           here (Ok ls) lies =
               let says = label-says (in_force_at c p).surroundings scope context_label ls (scope-kept c.functions keep numbered scope) lies in
               subst (λ o. BeginWithContext c.functions (in_force_at c p).surroundings.frame (suc p.entry.depth) scope (map (settled_entry places) (entries_for c p o ++ rest))) (sym (over ∙ ap Some lies))
-              (is-context c.functions (in_force_at c p).surroundings.frame (suc p.entry.depth) scope ls (places (own_entry (place_of_context_pointer c.told.memory))) says)
+              (is-context c.functions (in_force_at c p).surroundings.frame (suc p.entry.depth) scope ls (places (synthetic_entry (place_of_context_pointer c.told.memory))) says)
           here (Err refusal) lies =
               let refused : location_refusals (context_over c p) ≡ refusal ∷ [] = ap location_refusals (over ∙ ap Some lies) in
               absurd (cc)

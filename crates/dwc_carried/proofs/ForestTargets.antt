@@ -25,15 +25,15 @@ use Rattle.dwc_dwarf.specs.ReadUnits.{Unit}
 use Rattle.dwc_native.specs.Compiled.{Memory, no_memory, defined, imported}
 use Rattle.dwc_native.specs.Functions.{Function}
 use Rattle.dwc_native.specs.BuiltExpressions.{BuildRefusal}
-use Rattle.dwc_rules.specs.OwnUnits.{place_of_context_pointer, place_of_wasm_pointer, own_unit}
+use Rattle.dwc_rules.specs.SyntheticUnit.{place_of_context_pointer, place_of_wasm_pointer, synthetic_unit}
 use Rattle.dwc_rules.specs.MadeEntries.{named}
 use Rattle.dwc_rules.specs.TypeNames.{type_of}
 use Rattle.dwc_rules.specs.Wrappers.{is_wrapped, type_made, target_type, wrapper, wrapper_types}
 use Rattle.dwc_rules.specs.ObjectPointers.{underscored}
-use Rattle.dwc_rules.specs.ContextVariable.{context_over, context_pointer, context_variable, context_entries, located_or_none}
+use Rattle.dwc_rules.specs.ContextVariable.{context_over, context_pointer, context_variable, context_entries, locations_or_none}
 use Rattle.dwc_rules.specs.Refusals.{Refusal, of_place}
 use Rattle.dwc_dwarf.specs.Trees.{Interval, Location, TreeValue, address as address_of_tree, constant, flag, block, text, line_table, ranges, expression, locations, entry, nothing}
-use Rattle.dwc_rules.specs.Drafts.{Role, itself, pointer_to_wrapper, reference_to_target, pointer_to_target, Goal, made_of, own_entry, DraftValue, done, goes_to}
+use Rattle.dwc_rules.specs.Drafts.{Role, itself, pointer_to_wrapper, reference_to_target, pointer_to_target, Goal, made_of, synthetic_entry, DraftValue, done, goes_to}
 use Rattle.dwc_dwarf.specs.Texts.{text_named}
 use Rattle.dwc_rules.specs.Targets.{target_of}
 use Rattle.dwc_dwarf.specs.TreeLaws.{HasAllTargets, goes_somewhere}
@@ -51,7 +51,7 @@ use Rattle.dwc_base.proofs.InLists.{IsIn}
 use Rattle.dwc_rules.proofs.GoalsHave.{GoalsHave}
 use Rattle.dwc_carried.proofs.MadeDrafts.{each-made}
 use Rattle.dwc_rules.proofs.PointerLaws.{each-changed}
-use Rattle.dwc_rules.proofs.LocationValues.{is_nothing, is_expression, is_list, GivesLocated, expression-located, locations-located}
+use Rattle.dwc_rules.proofs.LocationValues.{is_nothing, is_expression, is_list, GivesLocationValue, expression-located, locations-located}
 use Rattle.dwc_rules.proofs.ForestLaws.{some_same, none_is, Each, each_chosen, each_mapped, each_filter_map, each_both, SaysNoPlace, Anywhere, EntrySaysNoPlace, UnitSaysNoPlace, ModuleSaysNoPlace, references-go}
 
 module _ (Has : Goal → Type 0) (plain : (offset : ℕ) → Has (made_of offset itself)) where
@@ -123,7 +123,7 @@ module _ (Has : Goal → Type 0) (plain : (offset : ℕ) → Has (made_of offset
 
   -- ---- expressions and location lists
 
-  located-made : (name : ℕ) (r : Result (Option TreeValue) LocationRefusal) (tell : LocationRefusal → Refusal) → GivesLocated r → MakesNoPlace name (told_as tell (r >>= λ v. Ok (LocationAttributes.drafted v)))
+  located-made : (name : ℕ) (r : Result (Option TreeValue) LocationRefusal) (tell : LocationRefusal → Refusal) → GivesLocationValue r → MakesNoPlace name (told_as tell (r >>= λ v. Ok (LocationAttributes.drafted v)))
   located-made name (Err refusal) tell gives = refused-made name (tell refusal)
   located-made name (Ok None) tell is_nothing = nothing-made name
   located-made name (Ok (Some _)) tell (is_expression bytes) = value-made name (done (expression bytes)) refl
@@ -283,10 +283,10 @@ module _ (Has : Goal → Type 0) (c : ExpressionSource) (s : UnitSource) (big_en
   told-no-place plain e =
       each-changed (SaysNoPlace Has) (underscored-no-place Has) (wrappers_of c).texts c.entries e (attributes_made (rules_of_source c) s big_endian e) (entry-no-place Has plain c s e big_endian)
 
-  context-no-place : Has (own_entry (place_of_context_pointer c.told.memory)) → (e : Placed) → UnitSaysNoPlace Has (context_entries c e)
+  context-no-place : Has (synthetic_entry (place_of_context_pointer c.told.memory)) → (e : Placed) → UnitSaysNoPlace Has (context_entries c e)
   context-no-place pointer e = go (context_over c e)
     where
-      go : (o : Option (Result (List Location) BuildRefusal)) → UnitSaysNoPlace Has (option_to_list (option_map (λ located. context_variable (suc e.entry.depth) (context_pointer c) (located_or_none located)) o))
+      go : (o : Option (Result (List Location) BuildRefusal)) → UnitSaysNoPlace Has (option_to_list (option_map (λ located. context_variable (suc e.entry.depth) (context_pointer c) (locations_or_none located)) o))
       go None = tt
       go (Some located) = ((refl, (pointer, (refl, tt))), tt)
 
@@ -298,7 +298,7 @@ module _ (Has : Goal → Type 0) (c : ExpressionSource) (s : UnitSource) (big_en
         go None = tt
         go (Some f) = (plain f.entry.offset, tt)
 
-    wrapper-no-place : ((offset : ℕ) → Has (made_of offset itself)) → Has (own_entry (place_of_wasm_pointer c.told.memory)) → UnitSaysNoPlace Has (wrapper (wrappers_of c) e)
+    wrapper-no-place : ((offset : ℕ) → Has (made_of offset itself)) → Has (synthetic_entry (place_of_wasm_pointer c.told.memory)) → UnitSaysNoPlace Has (wrapper (wrappers_of c) e)
     wrapper-no-place plain pointer =
         let parameter : Each (SaysNoPlace Has) (type_made e pointer_to_wrapper ∷ named DW_AT_artificial (flag true) ∷ []) = (made pointer_to_wrapper, (refl, tt)) in (
           (refl, (refl, tt)),
@@ -322,19 +322,19 @@ unit-no-place Has m u s big_endian es have =
     (λ e i is. (told-no-place Has c s big_endian have.plain e, context-no-place Has c s big_endian have.context e))
     (λ e i is. (wrapper-no-place Has c s big_endian e (have.wrapped e i is) have.plain have.address, types-no-place Has c s big_endian e (have.wrapped e i is) have.plain))
 
--- nor does a module's own unit
-pub own-no-place : (set_memory : List ℕ) (memory : Memory) → UnitSaysNoPlace Anywhere (own_unit set_memory memory)
-unfolding own_unit
-own-no-place set_memory (defined offset) =
+-- nor does a module's synthetic unit
+pub synthetic-no-place : (set_memory : List ℕ) (memory : Memory) → UnitSaysNoPlace Anywhere (synthetic_unit set_memory memory)
+unfolding synthetic_unit
+synthetic-no-place set_memory (defined offset) =
     ((refl, (refl, (refl, tt))), ((refl, (refl, (refl, tt))), ((refl, (tt, tt)), ((refl, (refl, tt)), ((refl, (tt, (refl, tt))), ((refl, (refl, tt)), ((tt, (refl, tt)), ((refl, (tt, tt)), ((refl, (refl, (refl, tt))), tt)))))))))
-own-no-place set_memory no_memory =
+synthetic-no-place set_memory no_memory =
     ((refl, (refl, (refl, tt))), ((refl, (refl, (refl, tt))), ((refl, (tt, tt)), ((refl, tt), ((refl, (refl, tt)), ((tt, (refl, tt)), ((refl, (tt, tt)), ((refl, (refl, (refl, tt))), tt))))))))
-own-no-place set_memory (imported definition base) =
+synthetic-no-place set_memory (imported definition base) =
     ((refl, (refl, (refl, tt))), ((refl, (refl, (refl, tt))), ((refl, (tt, tt)), ((refl, tt), ((refl, (refl, tt)), ((tt, (refl, tt)), ((refl, (tt, tt)), ((refl, (refl, (refl, tt))), tt))))))))
 
 module-no-place : (big_endian : Bool) (m : Module) → ModuleSaysNoPlace Anywhere (module_drafts big_endian m)
 unfolding carried_drafts
-module-no-place big_endian m = (own-no-place m.told.names.set_memory m.told.memory, go (carried_in (kept_of m)))
+module-no-place big_endian m = (synthetic-no-place m.told.names.set_memory m.told.memory, go (carried_in (kept_of m)))
   where
     go : (us : List Unit) → Each (UnitSaysNoPlace Anywhere) (map (λ u. unit_drafts (expressions_of m u) (source_of (kept_of m) u) big_endian (kept_in (kept_of m) u)) us)
     go [] = tt

@@ -38,9 +38,9 @@ use Rattle.dwc_rules.specs.LocationAttributes.{LocationRefusal, of_place, of_bui
 use Rattle.dwc_rules.specs.LocationRules.{ExpressionSource, given_expression, expression_becomes, in_force_at, listed_by, listed_become, lists_of, locations_become}
 use Rattle.dwc_rules.specs.EntryRules.{code_value_becomes, of_list, of_location, wrappers_of, rules_of_source}
 use Rattle.dwc_rules.specs.RangeRefusals.{has_name}
-use Rattle.dwc_carried.specs.LastUnit.{last_refusals}
-use Rattle.dwc_carried.specs.ListedFunctions.{is_begun}
-use Rattle.dwc_carried.specs.Forests.{rules_of, wanted_units, is_big, drafts_of, function_refusals, own_refusals, reading_refusals, module_refusals, refusals, first_refusal, trees_made, refused_frames}
+use Rattle.dwc_carried.specs.SimulatedUnitRules.{simulated_unit_refusals}
+use Rattle.dwc_carried.specs.SimulatedFunctions.{is_begun}
+use Rattle.dwc_carried.specs.Forests.{rules_of, wanted_units, is_big, drafts_of, function_refusals, synthetic_refusals, reading_refusals, module_refusals, refusals, first_refusal, trees_made, refused_frames}
 use Rattle.dwc_rules.specs.ModuleDrafts.{expressions_of}
 use Rattle.dwc_rules.specs.CarriedUnits.{kept_of}
 use Rattle.dwc_rules.specs.ScopesCarried.{value_of_entry}
@@ -49,7 +49,7 @@ use Rattle.dwc_carried.specs.LocationsCarried.{LocationUse, over_scope, over_int
 use Rattle.dwc_base.proofs.InLists.{IsIn, in-filter}
 use Rattle.dwc_carried.proofs.MadeDrafts.{unit-says}
 use Rattle.dwc_rules.proofs.PointerLaws.{changed-said, location-untouched}
-use Rattle.dwc_carried.proofs.UnitsMade.{LastIs, units-made}
+use Rattle.dwc_carried.proofs.UnitsMade.{SimulatedIs, units-made}
 use Rattle.dwc_rules.proofs.AllIn.{all-in}
 use Rattle.dwc_carried.proofs.LocationScopes.{expression-says, interval-says, scope-kept}
 use Rattle.dwc_rules.proofs.LastAttributes.{AreOthers, IsPlain, IsValue, SaysLast, become-both, location-plain, says-last, value_made}
@@ -375,7 +375,7 @@ module _ (m : Module) (accepted : module_refusals m ≡ []) where
   unfolding Reached.module_refusals Reached.kept_refusals
   kept-accepted u p carried kept =
       let rules = rules_of m in
-      let units = (both-none (map of_fault (Reached.reading_faults (named_faults m.sections) (kept_of m).parts)) (flat_map (Reached.unit_refusals (unit_refusal m.sections) rules (kept_of m)) (carried_in (kept_of m))) (both-none (own_refusals m.told.memory) (reading_refusals m) accepted).1).1 in
+      let units = (both-none (map of_fault (Reached.reading_faults (named_faults m.sections) (kept_of m).parts)) (flat_map (Reached.unit_refusals (unit_refusal m.sections) rules (kept_of m)) (carried_in (kept_of m))) (both-none (synthetic_refusals m.told.memory) (reading_refusals m) accepted).1).1 in
       let unit = each-none (Reached.unit_refusals (unit_refusal m.sections) rules (kept_of m)) (carried_in (kept_of m)) u units carried in
       let entries = (both-none (option_to_list (unit_refusal m.sections u)) (Reached.kept_refusals rules (kept_of m) u) unit).1 in
       each-none (entry_refusals (rules u) (source_of (kept_of m) u)) (kept_in (kept_of m) u) p entries kept
@@ -399,13 +399,13 @@ no-first (x ∷ xs) h = absurd (cc)
 -- of an input of which nothing is refused nothing is of a module
 pub none-refused : (c : Compilation) → first_refusal c ≡ None → (m : Module) → IsIn m c.modules → module_refusals m ≡ []
 none-refused c accepted m i =
-    let last = last_refusals (is_begun c.modules) c.next_id c.modules ++ refused_frames c in
+    let last = simulated_unit_refusals (is_begun c.modules) c.next_id c.modules ++ refused_frames c in
     let behind = (both-none (flat_map (λ (n : Module). function_refusals n.functions) c.modules) (flat_map module_refusals c.modules ++ last) (no-first (refusals c) accepted)).1 in
     each-none module_refusals c.modules m (both-none (flat_map module_refusals c.modules) last behind).0 i
 
 -- The trees that are made of an input of which nothing is refused, whose functions have good maps and numbers of their own, carry its
--- locations, if the last one does.
-pub made-locations : (c : Compilation) → All (λ (m : Module). AreNumbered m.functions) c.modules → ((fs : List Function) → TranslationsKeepScopes fs) → first_refusal c ≡ None → LastIs (UnitHasLocations (drafts_of (is_big c.order))) (is_begun c.modules) c.next_id c.modules
+-- locations, if the simulated one does.
+pub made-locations : (c : Compilation) → All (λ (m : Module). AreNumbered m.functions) c.modules → ((fs : List Function) → TranslationsKeepScopes fs) → first_refusal c ≡ None → SimulatedIs (UnitHasLocations (drafts_of (is_big c.order))) (is_begun c.modules) c.next_id c.modules
     → LocationsCarried (drafts_of (is_big c.order)) (wanted_units c) (trees_made c)
 made-locations c numbered keep accepted last =
     units-made c (UnitHasLocations (drafts_of (is_big c.order))) (λ t. tt)

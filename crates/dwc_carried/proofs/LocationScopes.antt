@@ -316,9 +316,9 @@ interval-says s i x built kept e = go (single_code x.parts) refl
 -- ---- one label
 
 -- the locations, or some others where they are refused
-abbrev located_or : Result (List Location) BuildRefusal → List Location → List Location
-located_or (Ok ls) others = ls
-located_or (Err refusal) others = others
+abbrev locations_or : Result (List Location) BuildRefusal → List Location → List Location
+locations_or (Ok ls) others = ls
+locations_or (Err refusal) others = others
 
 -- over no scope no locations say where
 nothing-says : (fs : List Function) (frame : Option Frame) (labels : List ℕ) → SaysWhere fs frame [] labels []
@@ -334,7 +334,7 @@ pub label-says : (s : Surroundings) (scope : List (ℕ × ℕ)) (label : ℕ) (l
     → SaysWhere s.functions s.frame scope (label ∷ []) (map (λ l. l.over) ls)
 unfolding built_over
 label-says s [] label ls kept e =
-    let none : ls ≡ [] = ap (λ r. located_or r ls) (sym e) in
+    let none : ls ≡ [] = ap (λ r. locations_or r ls) (sym e) in
     subst (λ xs. SaysWhere s.functions s.frame [] (label ∷ []) (map (λ l. l.over) xs)) (sym none) (nothing-says s.functions s.frame (label ∷ []))
 label-says s (i ∷ is) label ls kept e = go (built_over s (i ∷ is) (label_alone label)) refl e
   where
@@ -344,5 +344,5 @@ label-says s (i ∷ is) label ls kept e = go (built_over s (i ∷ is) (label_alo
     go : (r : Result BuiltExpressions BuildRefusal) → built_over s (i ∷ is) (label_alone label) ≡ r → (r >>= λ built. Ok built.expressions) ≡ Ok ls → SaysWhere s.functions s.frame (i ∷ is) (label ∷ []) (map (λ l. l.over) ls)
     go (Err refusal) built h = let no : ◌≡◌ {A = Result (List Location) BuildRefusal} (Err refusal) (Ok ls) = h in absurd cc
     go (Ok b) built h =
-        let are : ls ≡ map (built_on s x) (ranges_built s (scope_ranges s.functions (i ∷ is)) x) = ap (λ r. located_or r ls) (sym h) ∙ ap (λ (y : BuiltExpressions). y.expressions) (over-ranges s i is x b refl built) in
+        let are : ls ≡ map (built_on s x) (ranges_built s (scope_ranges s.functions (i ∷ is)) x) = ap (λ r. locations_or r ls) (sym h) ∙ ap (λ (y : BuiltExpressions). y.expressions) (over-ranges s i is x b refl built) in
         subst (λ xs. SaysWhere s.functions s.frame (i ∷ is) (label ∷ []) (map (λ l. l.over) xs)) (sym are) (ranges-built-say s (i ∷ is) x kept (ranges_built s (scope_ranges s.functions (i ∷ is)) x) refl)

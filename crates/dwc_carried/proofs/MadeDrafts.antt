@@ -19,7 +19,7 @@ use Rattle.dwc_rules.specs.Clones.{UnitSource}
 use Rattle.dwc_native.specs.BuiltExpressions.{BuildRefusal}
 use Rattle.dwc_rules.specs.LocationRules.{ExpressionSource}
 use Rattle.dwc_rules.specs.Wrappers.{WrapperSource, is_wrapped, wrapper, wrapper_types, inner, outer, with_wrapper, entries_made}
-use Rattle.dwc_rules.specs.ContextVariable.{context_over, context_pointer, context_variable, located_or_none}
+use Rattle.dwc_rules.specs.ContextVariable.{context_over, context_pointer, context_variable, locations_or_none}
 use Rattle.dwc_rules.specs.EntryRules.{wrappers_of}
 use Rattle.dwc_rules.specs.CarriedDrafts.{source_of, draft_told, entry_made, unit_drafts}
 use Rattle.dwc_base.proofs.InLists.{IsIn, contains-in}
@@ -106,7 +106,8 @@ module _ (Q : ℕ → Draft → Type 0) where
     (λ offset made. absurd (no-both (e.entry.offset == offset) made), (λ offset made. absurd (no-both (e.entry.offset == offset) made), (λ offset made. absurd (no-both (e.entry.offset == offset) made), tt))),
   )
 
-  -- What is said of a unit's kept entries that are not wrapped, and of all that can be made of the others, is said of all that is made of them.
+  -- What is said of a unit's kept entries that are not wrapped, and of all that can be made of the others, is said of all that is made of
+  -- them.
   each-itself : (c : ExpressionSource) (s : UnitSource) (big_endian : Bool) (es : List Placed) → ((e : Placed) → IsIn e es → is_wrapped e ≡ false → Q e.entry.offset (draft_told c s big_endian e))
       → ((e : Placed) → IsIn e es → is_wrapped e ≡ true → (d : Draft) → Q e.entry.offset d) → Each IfMade (unit_drafts c s big_endian es)
   each-itself c s big_endian es plain wrapped =
@@ -114,14 +115,14 @@ module _ (Q : ℕ → Draft → Type 0) where
       (λ e i is. (made-itself (draft_told c s big_endian e) e.entry.offset refl (plain e i is), context e (context_over c e)))
       (λ e i is. wrapper-made (wrappers_of c) e (wrapped e i is))
     where
-      context : (e : Placed) (o : Option (Result (List Location) BuildRefusal)) → Each IfMade (option_to_list (option_map (λ located. context_variable (suc e.entry.depth) (context_pointer c) (located_or_none located)) o))
+      context : (e : Placed) (o : Option (Result (List Location) BuildRefusal)) → Each IfMade (option_to_list (option_map (λ located. context_variable (suc e.entry.depth) (context_pointer c) (locations_or_none located)) o))
       context e None = tt
       context e (Some located) = (no-origin _, tt)
 
 -- ---- carried units
 
--- What is said of each kept entry of a carried unit and of the entry that is made of it, be it wrapped or not, is said of all entries of the
--- tree that are made of one of the input, itself.
+-- What is said of each kept entry of a carried unit and of the entry that is made of it, be it wrapped or not, is said of all entries of
+-- the tree that are made of one of the input, itself.
 module _ (m : Module) (u : Unit) (carried : IsIn u (carried_in (kept_of m))) (big_endian : Bool) (places : Goal → Option (ℕ × ℕ)) (Says : Entry → TreeEntry → Type 0) where
   abbrev kept_here : List Placed
   kept_here = kept_in (kept_of m) u

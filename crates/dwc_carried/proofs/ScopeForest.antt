@@ -22,7 +22,7 @@ use Rattle.dwc_rules.specs.RangeAttributes.{begun_function, Extent, intervals, p
 use Rattle.dwc_native.specs.ScopesKept.{wasm_interval, native_of_intervals}
 use Rattle.dwc_rules.specs.ScopesCarried.{value_of_entry, bounded, listed_or, covered_intervals, scope_of_intervals, scope_to_keep, CarriesScope, UnitHasScopes, ScopesCarried}
 use Rattle.dwc_native.specs.ScopesKept.{KeepsScope, AreNumbered, TranslationsKeepScopes}
-use Rattle.dwc_carried.specs.ListedFunctions.{is_begun}
+use Rattle.dwc_carried.specs.SimulatedFunctions.{is_begun}
 use Rattle.dwc_rules.proofs.ForestLaws.{none_is}
 use Rattle.dwc_carried.proofs.MadeDrafts.{unit-says}
 use Rattle.dwc_carried.proofs.UnitsMade.{last-always, units-made}

@@ -7,11 +7,11 @@ use Rattle.dwc_native.specs.Functions.{Function}
 use Rattle.dwc_rules.specs.Carried.{Module}
 use Rattle.dwc_native.specs.Parts.{context_label}
 use Rattle.dwc_native.specs.Placed.{scope_intervals}
-use Rattle.dwc_rules.specs.ContextVariable.{located_or_none}
+use Rattle.dwc_rules.specs.ContextVariable.{locations_or_none}
 use Rattle.dwc_native.specs.ScopesKept.{KeepsScope}
 use Rattle.dwc_carried.specs.DefinedFunctions.{DefinedFunction}
-use Rattle.dwc_carried.specs.SimulatedUnit.{surroundings_of, label_located, local_entry, context_entry}
-use Rattle.dwc_carried.specs.SimulatedLocations.{IsLocated}
+use Rattle.dwc_carried.specs.SimulatedUnit.{surroundings_of, label_locations, local_entry, context_entry}
+use Rattle.dwc_carried.specs.SimulatedLocations.{IsLabelLocated}
 use Rattle.dwc_carried.proofs.LocationScopes.{label-says}
 
 -- the translation of a function's source keeps it as a scope
@@ -19,13 +19,13 @@ abbrev pub KeepsSource : Module → Function → Type 0
 KeepsSource m f = KeepsScope m.functions ((f.start, f.end) ∷ []) (scope_intervals m.functions ((f.start, f.end) ∷ []))
 
 -- A local says where it lies, unless that is refused.
-pub local-located : (unit : ℕ) (m : Module) (d : DefinedFunction) (label place : ℕ) (ls : List Location) → KeepsSource m d.function → label_located m d.function label ≡ Ok ls
-    → IsLocated (record { module_of = m; function = d.function; label = label }) (settled_entry (λ (goal : Goal). None) (local_entry unit m d label place))
-unfolding label_located
-local-located unit m d label place ls kept e = record { located = ls; lies = ap (λ r. Some (locations (located_or_none r))) e; says = label-says (surroundings_of m d.function) ((d.function.start, d.function.end) ∷ []) label ls kept e }
+pub local-located : (unit : ℕ) (m : Module) (d : DefinedFunction) (label place : ℕ) (ls : List Location) → KeepsSource m d.function → label_locations m d.function label ≡ Ok ls
+    → IsLabelLocated (record { module_of = m; function = d.function; label = label }) (settled_entry (λ (goal : Goal). None) (local_entry unit m d label place))
+unfolding label_locations
+local-located unit m d label place ls kept e = record { located = ls; lies = ap (λ r. Some (locations (locations_or_none r))) e; says = label-says (surroundings_of m d.function) ((d.function.start, d.function.end) ∷ []) label ls kept e }
 
 -- And so does the context.
-pub context-located : (pointer : TreeValue) (m : Module) (d : DefinedFunction) (ls : List Location) → KeepsSource m d.function → label_located m d.function context_label ≡ Ok ls
-    → IsLocated (record { module_of = m; function = d.function; label = context_label }) (settled_entry (λ (goal : Goal). None) (context_entry pointer m d))
-unfolding label_located
-context-located pointer m d ls kept e = record { located = ls; lies = ap (λ r. Some (locations (located_or_none r))) e; says = label-says (surroundings_of m d.function) ((d.function.start, d.function.end) ∷ []) context_label ls kept e }
+pub context-located : (pointer : TreeValue) (m : Module) (d : DefinedFunction) (ls : List Location) → KeepsSource m d.function → label_locations m d.function context_label ≡ Ok ls
+    → IsLabelLocated (record { module_of = m; function = d.function; label = context_label }) (settled_entry (λ (goal : Goal). None) (context_entry pointer m d))
+unfolding label_locations
+context-located pointer m d ls kept e = record { located = ls; lies = ap (λ r. Some (locations (locations_or_none r))) e; says = label-says (surroundings_of m d.function) ((d.function.start, d.function.end) ∷ []) context_label ls kept e }

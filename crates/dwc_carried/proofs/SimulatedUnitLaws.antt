@@ -13,7 +13,7 @@ use Rattle.dwc_rules.specs.CarriedDrafts.{source_of, unit_drafts, carried_drafts
 use Rattle.dwc_rules.specs.ModuleDrafts.{expressions_of, module_drafts}
 use Rattle.dwc_rules.specs.CarriedUnits.{kept_of, carried_units_of}
 use Rattle.dwc_carried.specs.DefinedFunctions.{DefinedFunction}
-use Rattle.dwc_carried.specs.ListedFunctions.{listed_functions}
+use Rattle.dwc_carried.specs.SimulatedFunctions.{simulated_functions}
 use Rattle.dwc_rules.specs.DraftOrder.{go_on_below, IsInFileOrder}
 use Rattle.dwc_native.specs.Parts.{context_label}
 use Rattle.dwc_rules.proofs.ForestLaws.{some_same, none_is, Each, each_filter_map, each_both}
@@ -34,7 +34,7 @@ units-counted big_endian m =
     ∙ sym (length-map us (λ u. record { module_of = m; unit = u }))
     ∙ sym (length-map (carried_units_of m) carried_unit))
 
--- So many trees stand before the last unit as its number says.
+-- So many trees stand before the simulated unit as its number says.
 pub last-number : (big_endian : Bool) (number : ℕ) (ms : List Module) → length (trees_from number (drafts_of_modules big_endian ms)) ≡ sum_by unit_count ms
 last-number big_endian number [] = refl
 last-number big_endian number (m ∷ ms) =
@@ -81,7 +81,7 @@ modules-shallow : (translated : ℕ → Bool) (unit : ℕ) (pointers : List Tree
 modules-shallow translated unit pointers [] = tt
 modules-shallow translated unit [] (m ∷ ms) = tt
 modules-shallow translated unit (pointer ∷ pointers) (m ∷ ms) =
-    each_both Shallow (flat_map (function_entries unit pointer m) (listed_functions translated m)) (modules_entries translated unit pointers ms) (functions-shallow unit pointer m (listed_functions translated m)) (modules-shallow translated unit pointers ms)
+    each_both Shallow (flat_map (function_entries unit pointer m) (simulated_functions translated m)) (modules_entries translated unit pointers ms) (functions-shallow unit pointer m (simulated_functions translated m)) (modules-shallow translated unit pointers ms)
 
 -- The unit is in file order.
 pub simulated-in_order : (translated : ℕ → Bool) (path : List ℕ) (unit : ℕ) (pointers : List TreeValue) (ms : List Module) → IsInFileOrder (simulated_unit translated path unit pointers ms)

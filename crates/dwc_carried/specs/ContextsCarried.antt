@@ -7,7 +7,7 @@ use Rattle.dwc_base.specs.declared.constants.TheConstants.{DW_AT_location, DW_AT
 use Rattle.dwc_dwarf.specs.Entries.{Entry}
 use Rattle.dwc_rules.specs.Kept.{Placed}
 use Rattle.dwc_native.specs.Functions.{Function}
-use Rattle.dwc_rules.specs.Carried.{CarriedUnit, WantedUnit, own_unit, carried_unit, listed_unit}
+use Rattle.dwc_rules.specs.Carried.{CarriedUnit, WantedUnit, synthetic_unit, carried_unit, unit_of_simulated}
 use Rattle.dwc_dwarf.specs.Trees.{Location, text, locations, TreeEntry, Tree}
 use Rattle.dwc_rules.specs.Drafts.{itself, Draft}
 use Rattle.dwc_rules.specs.DraftForests.{is_made_of}
@@ -48,11 +48,11 @@ abbrev pub UnitCarriesContexts : (CarriedUnit → List Draft) → CarriedUnit �
 UnitCarriesContexts drafted u tree =
     EachBehind (λ d behind. (e : Entry) → Contains u.unit.entries e → is_made_of e.offset itself d ≡ true → CarriesContext (expressions_of u.module_of u.unit) (record { unit = u.unit.header.offset; entry = e }) behind) (drafted u) tree
 
--- a module's own unit has none; those of the last one are among its locations
+-- a module's synthetic unit has none; those of the simulated one are among its locations
 abbrev pub UnitHasContexts : (CarriedUnit → List Draft) → WantedUnit → Tree → Type 0
-UnitHasContexts drafted own_unit tree = Unit {0}
+UnitHasContexts drafted synthetic_unit tree = Unit {0}
 UnitHasContexts drafted (carried_unit u) tree = UnitCarriesContexts drafted u tree
-UnitHasContexts drafted (listed_unit name translated ms) tree = Unit {0}
+UnitHasContexts drafted (unit_of_simulated name translated ms) tree = Unit {0}
 
 -- The contexts of an input are carried by the units of an output, each of which is to be one.
 abbrev pub ContextsCarried : (CarriedUnit → List Draft) → List WantedUnit → List Tree → Type 0

@@ -21,9 +21,9 @@ use Rattle.dwc_rules.specs.ModuleDrafts.{expressions_of, module_drafts}
 use Rattle.dwc_rules.specs.Drafts.{Draft}
 use Rattle.dwc_rules.specs.DraftForests as Drafts
 use Rattle.dwc_rules.specs.EntryRules.{named_faults, rules_of_source}
-use Rattle.dwc_carried.specs.LastUnit.{last_drafts, last_refusals, last_wanted}
-use Rattle.dwc_carried.specs.ListedFunctions.{is_begun}
-use Rattle.dwc_rules.specs.OwnUnits as Own
+use Rattle.dwc_carried.specs.SimulatedUnitRules.{simulated_drafts, simulated_unit_refusals, simulated_wanted}
+use Rattle.dwc_carried.specs.SimulatedFunctions.{is_begun}
+use Rattle.dwc_rules.specs.SyntheticUnit as Synthetic
 use Rattle.dwc_rules.specs.ReachedEntries as Reached
 use Rattle.dwc_dwarf.specs.Trees.{Tree}
 
@@ -31,13 +31,13 @@ use Rattle.dwc_dwarf.specs.Trees.{Tree}
 abbrev pub carried_units : Compilation → List CarriedUnit
 carried_units c = flat_map carried_units_of c.modules
 
--- the units of an output for the modules of an input: of each module its own and those of its carried units
+-- the units of an output for the modules of an input: of each module its synthetic unit and those of its carried units
 abbrev pub module_units : Compilation → List WantedUnit
 module_units c = flat_map wanted_units_of c.modules
 
--- The units of an output, in order: those for the modules, and the last one.
+-- The units of an output, in order: those for the modules, and the simulated one.
 abbrev pub wanted_units : Compilation → List WantedUnit
-wanted_units c = module_units c ++ last_wanted (is_begun c.modules) c.next_id c.modules
+wanted_units c = module_units c ++ simulated_wanted (is_begun c.modules) c.next_id c.modules
 
 -- ---- refusals
 
@@ -50,12 +50,12 @@ abbrev pub reading_refusals : Module → List Refusal
 reading_refusals m = Reached.module_refusals of_place (named_faults m.sections) (unit_refusal m.sections) (rules_of m) (kept_of m)
 
 -- what is refused of the unit that a module has of its own
-abbrev pub own_refusals : Memory → List Refusal
-own_refusals memory = if Own.is_too_far memory then far_memory ∷ [] else []
+abbrev pub synthetic_refusals : Memory → List Refusal
+synthetic_refusals memory = if Synthetic.is_too_far memory then far_memory ∷ [] else []
 
--- what is refused of a module: its own unit, and then what is read
+-- what is refused of a module: its synthetic unit, and then what is read
 abbrev pub module_refusals : Module → List Refusal
-module_refusals m = own_refusals m.told.memory ++ reading_refusals m
+module_refusals m = synthetic_refusals m.told.memory ++ reading_refusals m
 
 -- what is refused of functions with a symbol that are too long
 abbrev pub function_refusals : List Function → List Refusal
@@ -69,10 +69,10 @@ frame_descriptions c = flat_map (λ m. descriptions m.told.frames m.functions) c
 abbrev pub refused_frames : Compilation → List Refusal
 refused_frames c = map of_frame (frame_refusals c.common_entry (frame_descriptions c))
 
--- what is refused of an input: of the functions of all modules, then of what is read, module by module, then of the last unit, and then of
--- frames
+-- what is refused of an input: of the functions of all modules, then of what is read, module by module, then of the simulated unit, and
+-- then of frames
 abbrev pub refusals : Compilation → List Refusal
-refusals c = flat_map (λ m. function_refusals m.functions) c.modules ++ (flat_map module_refusals c.modules ++ (last_refusals (is_begun c.modules) c.next_id c.modules ++ refused_frames c))
+refusals c = flat_map (λ m. function_refusals m.functions) c.modules ++ (flat_map module_refusals c.modules ++ (simulated_unit_refusals (is_begun c.modules) c.next_id c.modules ++ refused_frames c))
 
 -- the refusal of an input: the first of these
 abbrev pub first_refusal : Compilation → Option Refusal
@@ -95,7 +95,7 @@ module_trees c = Drafts.forest (map (module_drafts (is_big c.order)) c.modules) 
 
 -- the trees of the units that are made for an input
 abbrev pub trees_made : Compilation → List Tree
-trees_made c = Drafts.forest (map (module_drafts (is_big c.order)) c.modules) (last_drafts (is_begun c.modules) c.next_id c.modules)
+trees_made c = Drafts.forest (map (module_drafts (is_big c.order)) c.modules) (simulated_drafts (is_begun c.modules) c.next_id c.modules)
 
 -- The trees of an output, one for each unit, module by module, and the last; or the first refusal in the order of the work.
 abbrev pub forest : Compilation → Result (List Tree) Refusal

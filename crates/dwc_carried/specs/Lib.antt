@@ -6,7 +6,7 @@ pub mod LinesCarried
 pub mod OutputCarried
 pub mod DefinedFunctions
 pub mod UnitPaths
-pub mod ListedFunctions
+pub mod SimulatedFunctions
 pub mod SimulatedUnit
-pub mod LastUnit
+pub mod SimulatedUnitRules
 pub mod SimulatedLocations

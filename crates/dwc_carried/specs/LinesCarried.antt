@@ -4,10 +4,10 @@ use Rattle.std.specs.List.{filter, AllZip}
 use Rattle.dwc_base.specs.Sections.{Sections}
 use Rattle.dwc_dwarf.specs.LineRows.{LineTable, Segment}
 use Rattle.dwc_native.specs.Images.{is_carried_segment, IsImageOf}
-use Rattle.dwc_rules.specs.Carried.{Compilation, CarriedUnit, WantedUnit, own_unit, carried_unit, listed_unit}
+use Rattle.dwc_rules.specs.Carried.{Compilation, CarriedUnit, WantedUnit, synthetic_unit, carried_unit, unit_of_simulated}
 use Rattle.dwc_dwarf.specs.ReadUnits.{Unit, units, table_of_unit, segments_of, segments_of_unit}
-use Rattle.dwc_output.specs.SimulatedLines.{CarriesListed}
-use Rattle.dwc_carried.specs.LastUnit.{listed_in_files}
+use Rattle.dwc_output.specs.SimulatedLines.{CarriesSimulated}
+use Rattle.dwc_carried.specs.SimulatedUnitRules.{simulated_in_files}
 use Rattle.dwc_carried.specs.Forests.{wanted_units}
 use Rattle.dwc_base.specs.Outputs.{OutputSection, output_sections}
 
@@ -40,15 +40,16 @@ pub record CarriesUnit (output : Sections) (u : CarriedUnit) (v : Unit) : Type 0
   pub kept : KeepFiles input made
   pub carried : AreImages u (segments_of made)
 
--- a unit of the output has the lines that it is to have; a module's own has no line table, and the last one has those of the listed functions
+-- a unit of the output has the lines that it is to have; a synthetic one has no line table, and the simulated one has those of the
+-- simulated functions
 abbrev pub HasLines : Sections → WantedUnit → Unit → Type 0
-HasLines output own_unit v = table_of_unit output v ≡ Ok None
+HasLines output synthetic_unit v = table_of_unit output v ≡ Ok None
 HasLines output (carried_unit u) v = CarriesUnit output u v
-HasLines output (listed_unit name translated ms) v = CarriesListed output name (listed_in_files translated ms) v
+HasLines output (unit_of_simulated name translated ms) v = CarriesSimulated output name (simulated_in_files translated ms) v
 
 -- The lines of an input are carried by an output: the input's units are read up to their section's end, and the output's
--- units are, in order, for each module its own without a line table, and one for each of its carried units, whose segments are the
--- images of that unit's carried segments, over its files, and last one with a segment for each listed function.
+-- units are, in order, for each module its synthetic unit without a line table, and one for each of its carried units, whose segments are
+-- the images of that unit's carried segments, over its files, and last the simulated one, with a segment for each simulated function.
 pub record LinesCarried (c : Compilation) (s : List OutputSection) : Type 0 where
   pub whole : All (λ m. (units m.sections).fault ≡ None) c.modules
   pub output : List Unit

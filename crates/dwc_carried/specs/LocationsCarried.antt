@@ -7,7 +7,7 @@ use Rattle.dwc_dwarf.specs.Values.{Value, expression, is_location_name}
 use Rattle.dwc_dwarf.specs.Entries.{Entry}
 use Rattle.dwc_rules.specs.Kept.{Placed}
 use Rattle.dwc_native.specs.Functions.{Function}
-use Rattle.dwc_rules.specs.Carried.{CarriedUnit, WantedUnit, own_unit, carried_unit, listed_unit}
+use Rattle.dwc_rules.specs.Carried.{CarriedUnit, WantedUnit, synthetic_unit, carried_unit, unit_of_simulated}
 use Rattle.dwc_dwarf.specs.Trees as Trees
 use Rattle.dwc_dwarf.specs.Trees.{Interval, Location, TreeValue, locations, TreeEntry, Tree}
 use Rattle.dwc_rules.specs.Drafts.{itself, Draft}
@@ -102,11 +102,11 @@ abbrev pub UnitCarriesLocations : (CarriedUnit → List Draft) → CarriedUnit �
 UnitCarriesLocations drafted u tree =
     AllZip (λ d out. (e : Entry) → Contains u.unit.entries e → is_made_of e.offset itself d ≡ true → CarriesLocations (expressions_of u.module_of u.unit) (record { unit = u.unit.header.offset; entry = e }) out) (drafted u) tree
 
--- a module's own unit has none; the last one has those of the labels of its functions
+-- a module's synthetic unit has none; the simulated one has those of the labels of its functions
 abbrev pub UnitHasLocations : (CarriedUnit → List Draft) → WantedUnit → Tree → Type 0
-UnitHasLocations drafted own_unit tree = Unit {0}
+UnitHasLocations drafted synthetic_unit tree = Unit {0}
 UnitHasLocations drafted (carried_unit u) tree = UnitCarriesLocations drafted u tree
-UnitHasLocations drafted (listed_unit name translated ms) tree = LocatesLabels translated ms tree
+UnitHasLocations drafted (unit_of_simulated name translated ms) tree = LocatesLabels translated ms tree
 
 -- The locations of an input are carried by the units of an output, each of which is to be one.
 abbrev pub LocationsCarried : (CarriedUnit → List Draft) → List WantedUnit → List Tree → Type 0

@@ -1,5 +1,5 @@
--- What it means that an output carries an input: its lines, its entries and no others, their scopes and locations, and the form that every reader
--- and linker relies on. (DWARF 4, chapters 2 and 6 and section 7.5.)
+-- What it means that an output carries an input: its lines, its entries and no others, their scopes and locations, and the form that every
+-- reader and linker relies on. (DWARF 4, chapters 2 and 6 and section 7.5.)
 use Rattle.std.specs.Prelude.{◌≡◌, ℕ, ◌+◌, List, sum_by, true, Ok, All}
 use Rattle.dwc_base.specs.declared.section_name.SectionName.{SectionName}
 use Rattle.dwc_base.specs.declared.section_name.SectionName.TheVariants.{Frame, Line}
@@ -17,8 +17,8 @@ use Rattle.dwc_dwarf.specs.TreeLaws.{HasAllTargets, HasTextsOnce}
 use Rattle.dwc_output.specs.OutputForm.{HaveTargetForm, HasDistinctNames, are_of_output}
 use Rattle.dwc_output.specs.Fields.{IsRelocated}
 use Rattle.dwc_output.specs.FramesCarried.{FramesCarried, others_in, widest_frames}
-use Rattle.dwc_carried.specs.LastUnit.{widest_last}
-use Rattle.dwc_carried.specs.ListedFunctions.{is_begun}
+use Rattle.dwc_carried.specs.SimulatedUnitRules.{widest_simulated}
+use Rattle.dwc_carried.specs.SimulatedFunctions.{is_begun}
 use Rattle.dwc_output.specs.WidestTrees.{widest_of_trees}
 use Rattle.dwc_output.specs.Widest.{widest_table}
 
@@ -27,9 +27,9 @@ abbrev pub widest_lines_of : CarriedUnit → ℕ
 widest_lines_of u = widest_table u.module_of.functions (table_of_unit u.module_of.sections u.unit)
 
 -- An output carries an input, of which nothing is refused: its lines; the trees of its forest, and no others, whose references all name
--- entries of these trees; the scopes, the locations and the contexts of the entries that these are made of; equal texts in one place; in units of version 4 with
--- addresses of the target's size; in sections of names of their own, and none that an output has not, whose relocations are those of the
--- fields in them; and the frames of its functions, byte for byte.
+-- entries of these trees; the scopes, the locations and the contexts of the entries that these are made of; equal texts in one place; in
+-- units of version 4 with addresses of the target's size; in sections of names of their own, and none that an output has not, whose
+-- relocations are those of the fields in them; and the frames of its functions, byte for byte.
 pub record OutputCarried (c : Compilation) (sections : List OutputSection) : Type 0 where
   pub lines : LinesCarried c sections
   pub wanted : List Tree
@@ -46,9 +46,9 @@ pub record OutputCarried (c : Compilation) (sections : List OutputSection) : Typ
   pub relocated : All (IsRelocated (output_sections c.order sections)) (others_in sections)
   pub frames : FramesCarried c.order c.pointer_bytes c.common_entry (frame_descriptions c) sections
 
--- How long a section of the output of an input can be at most: the line tables with the images of the carried sequences and of the listed
--- functions, what says the trees of all units, and the frames.
+-- How long a section of the output of an input can be at most: the line tables with the images of the carried sequences and of the
+-- simulated functions, what says the trees of all units, and the frames.
 abbrev pub widest : SectionName → Compilation → ℕ
-widest Line c = sum_by widest_lines_of (carried_units c) + widest_last (is_begun c.modules) c.next_id c.modules
+widest Line c = sum_by widest_lines_of (carried_units c) + widest_simulated (is_begun c.modules) c.next_id c.modules
 widest Frame c = widest_frames c.common_entry (frame_descriptions c)
 widest name c = widest_of_trees name (trees_made c)

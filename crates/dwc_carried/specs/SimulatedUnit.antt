@@ -1,5 +1,5 @@
--- The unit of an output for the functions without debugging information of all modules, whose numbers are none of those that are translated:
--- its entries, and what is refused of them. (This project's own tree; DWARF 4 and 5, sections 3.1.1, 3.3, 4.1 and 5.1.)
+-- The unit of an output for the functions without debugging information of all modules, whose numbers are none of those that are
+-- translated: its entries, and what is refused of them. (This project's own tree; DWARF 4 and 5, sections 3.1.1, 3.3, 4.1 and 5.1.)
 use Rattle.std.specs.Prelude.{ℕ, ◌+◌, ◌==◌, pos, List, [], ◌∷◌, ◌++◌, length, map, Bool, ◌||◌, if◌then◌else◌, Option, Some, None, option_map, option_and_then, is_some, Result, codes}
 use Rattle.std.specs.List.{filter, filter_map, flat_map}
 use Rattle.std.specs.Option.{unwrap_or}
@@ -12,22 +12,22 @@ use Rattle.dwc_rules.specs.Carried.{Module}
 use Rattle.dwc_dwarf.specs.Trees.{Interval, Location, TreeValue, address, constant, text, line_table, ranges, locations, entry}
 use Rattle.dwc_rules.specs.Drafts.{done, Draft}
 use Rattle.dwc_rules.specs.MadeEntries.{named, data1, udata, made}
-use Rattle.dwc_rules.specs.OwnUnits.{place_of_context_pointer}
+use Rattle.dwc_rules.specs.SyntheticUnit.{place_of_context_pointer}
 use Rattle.dwc_native.specs.Runs.{interval_of}
 use Rattle.dwc_native.specs.Parts.{context_label}
 use Rattle.dwc_native.specs.BuiltExpressions.{BuildRefusal, Surroundings, label_over}
 use Rattle.dwc_rules.specs.LocationRules.{frame_told}
-use Rattle.dwc_rules.specs.ContextVariable.{context_variable, located_or_none, location_refusals}
+use Rattle.dwc_rules.specs.ContextVariable.{context_variable, locations_or_none, location_refusals}
 use Rattle.dwc_rules.specs.Refusals.{Refusal}
 use Rattle.dwc_base.specs.Listing.{first_of}
 use Rattle.dwc_rules.specs.EntryRules.{of_build}
 use Rattle.dwc_rules.specs.CarriedUnits.{wanted_units_of}
-use Rattle.dwc_base.specs.declared.wasm.ValType.{ValType}
-use Rattle.dwc_base.specs.declared.wasm.ValType.TheVariants.{I32, I64, F32, F64, Other}
+use Rattle.dwc_base.specs.declared.translation.ValType.{ValType}
+use Rattle.dwc_base.specs.declared.translation.ValType.TheVariants.{I32, I64, F32, F64, Other}
 use Rattle.dwc_base.specs.ToldFiles.{is_parameter, type_of_local}
 use Rattle.dwc_carried.specs.DefinedFunctions.{DefinedFunction, types_at, told_local_name}
 use Rattle.dwc_carried.specs.UnitPaths.{without_zero, path_name, path_directory}
-use Rattle.dwc_carried.specs.ListedFunctions.{listed_functions}
+use Rattle.dwc_carried.specs.SimulatedFunctions.{simulated_functions}
 
 -- ---- the root
 
@@ -46,9 +46,9 @@ simulated_root path whole =
 abbrev pub whole_interval : Function → Option Interval
 whole_interval f = if f.length == 0 then None else Some (interval_of f.number (0, f.length))
 
--- those of the listed functions of a module
+-- those of the simulated functions of a module
 abbrev pub whole_intervals : (ℕ → Bool) → Module → List Interval
-whole_intervals translated m = filter_map (λ d. whole_interval d.function) (listed_functions translated m)
+whole_intervals translated m = filter_map (λ d. whole_interval d.function) (simulated_functions translated m)
 
 -- ---- types
 
@@ -75,8 +75,8 @@ abbrev pub surroundings_of : Module → Function → Surroundings
 surroundings_of m f = record { functions = m.functions; frame = Some (frame_told m.told f); register = m.told.register }
 
 -- Where the value of a label of a function lies over all of that function's source, or why that is refused.
-unfoldable pub label_located : Module → Function → ℕ → Result (List Location) BuildRefusal
-label_located m f label = label_over (surroundings_of m f) ((f.start, f.end) ∷ []) label
+unfoldable pub label_locations : Module → Function → ℕ → Result (List Location) BuildRefusal
+label_locations m f label = label_over (surroundings_of m f) ((f.start, f.end) ∷ []) label
 
 -- ---- variables
 
@@ -102,11 +102,11 @@ local_entry unit m d n place =
     made 2 (local_tag m d n) (
     named DW_AT_name (text (local_name m d n))
     ∷ named DW_AT_type (entry unit place)
-    ∷ named DW_AT_location (locations (located_or_none (label_located m d.function n))) ∷ [])
+    ∷ named DW_AT_location (locations (locations_or_none (label_locations m d.function n))) ∷ [])
 
 -- the context, with the type of a pointer to it
 abbrev pub context_entry : TreeValue → Module → DefinedFunction → Draft
-context_entry pointer m d = context_variable 2 (done pointer) (located_or_none (label_located m d.function context_label))
+context_entry pointer m d = context_variable 2 (done pointer) (locations_or_none (label_locations m d.function context_label))
 
 -- the entry of a label of a function: the context's, or that of a local of one of the four types; others have none
 abbrev pub label_entry : ℕ → TreeValue → Module → DefinedFunction → ℕ → Option Draft
@@ -122,7 +122,7 @@ function_name m index = unwrap_or (without_zero (coded m.file.function_names ind
 abbrev pub first_source : Function → ℕ
 first_source f = unwrap_or (option_map (λ e. e.wasm) (first_of (recorded_sources f))) f.start
 
--- a listed function; the line that declares it is an offset in its file
+-- a simulated function; the line that declares it is an offset in its file
 abbrev pub function_entry : Module → DefinedFunction → Draft
 function_entry m d =
     made 1 DW_TAG_subprogram (
@@ -138,22 +138,22 @@ function_entries unit pointer m d = function_entry m d ∷ filter_map (label_ent
 
 -- ---- the unit
 
--- how many units an output has before the last for a module: its own, and those of its carried units
+-- how many units an output has before the simulated one for a module: its synthetic unit, and those of its carried units
 abbrev pub unit_count : Module → ℕ
 unit_count m = length (wanted_units_of m)
 
--- the types of pointers to the contexts of modules, in the modules' own units, of which the first has a number
+-- the types of pointers to the contexts of modules, in the modules' synthetic units, of which the first has a number
 abbrev pub context_pointers : ℕ → List Module → List TreeValue
-context_pointers own [] = []
-context_pointers own (m ∷ ms) = entry own (place_of_context_pointer m.told.memory) ∷ context_pointers (own + unit_count m) ms
+context_pointers synthetic [] = []
+context_pointers synthetic (m ∷ ms) = entry synthetic (place_of_context_pointer m.told.memory) ∷ context_pointers (synthetic + unit_count m) ms
 
--- the entries of the listed functions of modules, in the unit of a number, with a type of a pointer to a context for each module
+-- the entries of the simulated functions of modules, in the unit of a number, with a type of a pointer to a context for each module
 abbrev pub modules_entries : (ℕ → Bool) → ℕ → List TreeValue → List Module → List Draft
 modules_entries translated unit pointers [] = []
 modules_entries translated unit [] (m ∷ ms) = []
-modules_entries translated unit (pointer ∷ pointers) (m ∷ ms) = flat_map (function_entries unit pointer m) (listed_functions translated m) ++ modules_entries translated unit pointers ms
+modules_entries translated unit (pointer ∷ pointers) (m ∷ ms) = flat_map (function_entries unit pointer m) (simulated_functions translated m) ++ modules_entries translated unit pointers ms
 
--- The unit of a path, of a number, with these types: the root, the types of numbers, and the listed functions in order.
+-- The unit of a path, of a number, with these types: the root, the types of numbers, and the simulated functions in order.
 unfoldable pub simulated_unit : (ℕ → Bool) → List ℕ → ℕ → List TreeValue → List Module → List Draft
 simulated_unit translated path unit pointers ms = simulated_root path (flat_map (whole_intervals translated) ms) ∷ base_types ++ modules_entries translated unit pointers ms
 
@@ -163,10 +163,10 @@ simulated_unit translated path unit pointers ms = simulated_root path (flat_map 
 abbrev pub has_entry : Module → DefinedFunction → ℕ → Bool
 has_entry m d label = (label == context_label) || is_some (type_place m d label)
 
--- why the variables of a listed function are refused, by rising labels
+-- why the variables of a simulated function are refused, by rising labels
 abbrev pub variable_refusals : Module → DefinedFunction → List Refusal
-variable_refusals m d = flat_map (λ label. map (of_build m.told.place) (location_refusals (Some (label_located m d.function label)))) (filter (has_entry m d) (m.told.labels d.function.number))
+variable_refusals m d = flat_map (λ label. map (of_build m.told.place) (location_refusals (Some (label_locations m d.function label)))) (filter (has_entry m d) (m.told.labels d.function.number))
 
 -- What is refused of the variables of the unit, in order.
 unfoldable pub simulated_refusals : (ℕ → Bool) → List Module → List Refusal
-simulated_refusals translated ms = flat_map (λ m. flat_map (variable_refusals m) (listed_functions translated m)) ms
+simulated_refusals translated ms = flat_map (λ m. flat_map (variable_refusals m) (simulated_functions translated m)) ms

@@ -8,7 +8,7 @@ use Rattle.dwc_native.specs.Compiled.{ToldModule}
 use Rattle.dwc_dwarf.specs.Entries.{Entry, entries}
 use Rattle.dwc_native.specs.Functions.{Function}
 use Rattle.dwc_rules.specs.Kept.{Placed}
-use Rattle.dwc_carried.specs.ListedFunctions.{begun_functions, begun_in_module}
+use Rattle.dwc_carried.specs.SimulatedFunctions.{begun_functions, begun_in_module}
 use Rattle.dwc_dwarf.specs.Lists.{list_source}
 use Rattle.dwc_rules.specs.RangeAttributes.{begun_function}
 use Rattle.dwc_kept.specs.declared.kept_units.KeptModule.{KeptModule}
@@ -18,7 +18,7 @@ use Rattle.dwc_base.proofs.InLists.{contains-in}
 use Rattle.dwc_kept.proofs.KeptModuleLaws.{carried-read, read-entries, read-unit}
 use Rattle.dwc_clone.specs.BegunNumbers.{NotesFunctions}
 use Rattle.dwc_clone.specs.ClonedUnits.{picked, placed_in}
-use Rattle.dwc_clone.specs.declared.places.EmittedEntry.{EmittedEntry}
+use Rattle.dwc_source.specs.declared.places.EmittedEntry.{EmittedEntry}
 use Rattle.dwc_clone.proofs.BegunNumberLaws.{AreNotedSoFar, noted-more}
 use Rattle.dwc_carry.specs.CarriedUnits.{IsOfModule, IsUnitOf}
 use Rattle.dwc_carry.specs.ModulePlaces.{carried_offsets}

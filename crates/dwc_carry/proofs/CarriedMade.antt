@@ -6,14 +6,14 @@ use Rattle.std.proofs.lemmas.Bool.{ne_eqb}
 use Rattle.std.proofs.lemmas.List.{append_assoc}
 use Rattle.dwc_rules.specs.Carried.{Module, carried_unit}
 use Rattle.dwc_dwarf.specs.ReadUnits.{Unit}
-use Rattle.dwc_rules.specs.Drafts.{itself, pointer_to_wrapper, reference_to_target, pointer_to_target, Goal, made_of, own_entry, Draft}
+use Rattle.dwc_rules.specs.Drafts.{itself, pointer_to_wrapper, reference_to_target, pointer_to_target, Goal, made_of, synthetic_entry, Draft}
 use Rattle.dwc_rules.specs.DraftForests.{place_of_goal}
 use Rattle.dwc_rules.specs.CarriedDrafts.{source_of}
 use Rattle.dwc_rules.specs.KeptModules.{kept_in}
 use Rattle.dwc_carried.specs.Forests.{drafts_of}
 use Rattle.dwc_rules.specs.ModuleDrafts.{module_drafts}
 use Rattle.dwc_rules.specs.CarriedUnits.{kept_of}
-use Rattle.dwc_rules.specs.OwnUnits.{own_unit}
+use Rattle.dwc_rules.specs.SyntheticUnit.{synthetic_unit}
 use Rattle.dwc_dwarf.specs.Trees.{place_among}
 use Rattle.dwc_carried.proofs.ForestTargets.{unit-no-place}
 use Rattle.dwc_rules.proofs.GoalsHave.{GoalsHave}
@@ -22,11 +22,11 @@ use Rattle.dwc_kept.specs.declared.read_unit.ReadUnit.{ReadUnit}
 use Rattle.dwc_kept.specs.ReadUnits.{unit_read, IsKeptModule}
 use Rattle.dwc_kept.proofs.KeptGoals.{carried, inside}
 use Rattle.dwc_kept.proofs.NumberedGoals.{HasNumber, AreAtNumbers, AreNumberedUnits, goals-put}
-use Rattle.dwc_write.specs.GivenUnits.{GivenUnit}
-use Rattle.dwc_write.specs.Renumbered.{renumbered_entry}
+use Rattle.dwc_unit.specs.GivenUnits.{GivenUnit}
+use Rattle.dwc_unit.specs.Renumbered.{renumbered_entry}
 use Rattle.dwc_carry.proofs.SettledLaws.{IsPutAt, unit-put}
-use Rattle.dwc_clone.specs.declared.places.EmittedEntry.{EmittedEntry}
-use Rattle.dwc_clone.specs.OutputPlaces.{place_of}
+use Rattle.dwc_source.specs.declared.places.EmittedEntry.{EmittedEntry}
+use Rattle.dwc_source.specs.OutputPlaces.{place_of}
 use Rattle.dwc_carry.specs.MadeUnits.{LeadsTo, IsMadeOf, AreMadeOf}
 use Rattle.dwc_carry.specs.ModulePlaces.{emitted, numbered_lists}
 use Rattle.dwc_carry.specs.CarriedUnits.{CarriesUnit, CarryUnits, wanted_of}
@@ -47,7 +47,7 @@ module _ (c : Module) (m : KeptModule) (is : IsKeptModule c.functions c.sections
   elsewhere (made_of offset pointer_to_wrapper) = None
   elsewhere (made_of offset reference_to_target) = None
   elsewhere (made_of offset pointer_to_target) = None
-  elsewhere (own_entry place) = Some (first, place)
+  elsewhere (synthetic_entry place) = Some (first, place)
 
   abbrev goals_of : (number : ℕ) (us : List Unit) (gs : List GivenUnit) → Carry number us gs → ℕ → Goal → Option (ℕ × ℕ)
   goals_of number [] [] h n = elsewhere
@@ -65,14 +65,14 @@ module _ (c : Module) (m : KeptModule) (is : IsKeptModule c.functions c.sections
       go true others = h.0.kept offset
       go false others = others
 
-  goals-own : (number : ℕ) (us : List Unit) (gs : List GivenUnit) (h : Carry number us gs) (n place : ℕ) → goals_of number us gs h n (own_entry place) ≡ Some (first, place)
-  goals-own number [] [] h n place = refl
-  goals-own number [] (g ∷ gs) h n place = absurd h
-  goals-own number (u ∷ us) [] h n place = absurd h
-  goals-own number (u ∷ us) (g ∷ gs) h n place = go (n == number) (goals-own (suc number) us gs h.1 n place)
+  goals-synthetic : (number : ℕ) (us : List Unit) (gs : List GivenUnit) (h : Carry number us gs) (n place : ℕ) → goals_of number us gs h n (synthetic_entry place) ≡ Some (first, place)
+  goals-synthetic number [] [] h n place = refl
+  goals-synthetic number [] (g ∷ gs) h n place = absurd h
+  goals-synthetic number (u ∷ us) [] h n place = absurd h
+  goals-synthetic number (u ∷ us) (g ∷ gs) h n place = go (n == number) (goals-synthetic (suc number) us gs h.1 n place)
     where
-      go : (b : Bool) → goals_of (suc number) us gs h.1 n (own_entry place) ≡ Some (first, place) → (cond {A = Goal → Option (ℕ × ℕ)} b h.0.goals (goals_of (suc number) us gs h.1 n)) (own_entry place) ≡ Some (first, place)
-      go true others = h.0.own place
+      go : (b : Bool) → goals_of (suc number) us gs h.1 n (synthetic_entry place) ≡ Some (first, place) → (cond {A = Goal → Option (ℕ × ℕ)} b h.0.goals (goals_of (suc number) us gs h.1 n)) (synthetic_entry place) ≡ Some (first, place)
+      go true others = h.0.synthetic place
       go false others = others
 
   -- goals are those of some units from a number on
@@ -115,7 +115,7 @@ module _ (c : Module) (m : KeptModule) (is : IsKeptModule c.functions c.sections
         subst (λ n. AreAtNumbers at (goals n) n (drafts r)) counted
         (numbered-at goals (suc number) front more r gs h.1 (agree-more goals number (of_read x) (map of_read (front ++ r ∷ more)) g gs h agree) (leads-more number g gs leads))
 
-    module _ (own_there : (place : ℕ) → place < length (own_unit c.told.names.set_memory c.told.memory) → at first place ≡ Some (first, place))
+    module _ (synthetic_there : (place : ℕ) → place < length (synthetic_unit c.told.names.set_memory c.told.memory) → at first place ≡ Some (first, place))
         (all : List GivenUnit) (h : Carry (suc first) (map of_read (carried m)) all) (leads : LeadsTo at (suc first) all) where
       abbrev goals : ℕ → Goal → Option (ℕ × ℕ)
       goals = goals_of (suc first) (map of_read (carried m)) all h
@@ -136,8 +136,8 @@ module _ (c : Module) (m : KeptModule) (is : IsKeptModule c.functions c.sections
       numbered = record {
         units = λ front more r are. split-at front more (carried m) r are h (λ n above. refl);
         kept = λ number offset. goals-kept (suc first) (map of_read (carried m)) all h number offset ∙ place-kept offset;
-        own = λ number place. goals-own (suc first) (map of_read (carried m)) all h number place;
-        own_there = own_there;
+        synthetic = λ number place. goals-synthetic (suc first) (map of_read (carried m)) all h number place;
+        synthetic_there = synthetic_there;
       }
 
       one-made : (front more : List ReadUnit) (r : ReadUnit) (g : GivenUnit) → carried m ≡ front ++ r ∷ more → (number : ℕ) → number ≡ suc first + length front → (k : Carries number (of_read r) g) → goals number ≡ k.goals

@@ -7,8 +7,8 @@ use Rattle.dwc_native.specs.CallFrames.{FrameDescription}
 use Rattle.dwc_native.specs.Compiled.{frames_from}
 use Rattle.dwc_native.specs.Functions.{function_of, functions_of}
 use Rattle.dwc_output.specs.FramesCarried.{description_of, descriptions}
-use Rattle.dwc_clif.specs.AddressMaps.{address_map_view}
-use Rattle.dwc_clif.specs.CallFrames.{description_of_metadata}
+use Rattle.dwc_compiled.specs.AddressMaps.{address_map_view}
+use Rattle.dwc_compiled.specs.FunctionFrames.{description_of_metadata}
 use Rattle.dwc_addr.specs.Numbers.{Compiled}
 use Rattle.dwc_carry.specs.CompiledFrames.{described, compiled_frames}
 

@@ -4,17 +4,17 @@ use Rattle.std.specs.Prelude.{IfSome, option_map}
 use Rattle.std.specs.Option.{unwrap_or}
 use Rattle.std.proofs.lemmas.List.{length-map}
 use Rattle.std.proofs.lemmas.List.Elements.{All-nil, All-cons, All-weaker}
-use Rattle.dwc_base.specs.declared.wasm.ModuleTranslation.{ModuleTranslation}
+use Rattle.dwc_base.specs.declared.translation.ModuleTranslation.{ModuleTranslation}
 use Rattle.dwc_native.specs.Functions.{AddressMap, Function, function_of, functions_of}
 use Rattle.dwc_rules.specs.Carried.{Module}
 use Rattle.dwc_native.specs.Compiled.{LinkageNames, ToldModule}
-use Rattle.dwc_clif.specs.AddressMaps.{address_map_view}
-use Rattle.dwc_clif.specs.Registers.{Registers}
-use Rattle.dwc_addr.specs.declared.memory_offset.ModuleMemoryOffset.{ModuleMemoryOffset}
+use Rattle.dwc_compiled.specs.AddressMaps.{address_map_view}
+use Rattle.dwc_isa.specs.Registers.{Registers}
+use Rattle.dwc_isa.specs.declared.memory_offset.ModuleMemoryOffset.{ModuleMemoryOffset}
 use Rattle.dwc_addr.specs.Numbers.{Compiled, function_count, first_number}
 use Rattle.dwc_addr.specs.Compilations.{CompilationValue, functions_at, IsCounted}
-use Rattle.dwc_clone.specs.CompiledModules.{told_module, told_by, AreNumberedFrom, HasFrames}
-use Rattle.dwc_clone.specs.declared.compiled_module.CompiledModule.{CompiledModule}
+use Rattle.dwc_source.specs.CompiledModules.{told_module, told_by, AreNumberedFrom, HasFrames}
+use Rattle.dwc_source.specs.declared.compiled_module.CompiledModule.{CompiledModule}
 use Rattle.dwc_carry.specs.CarriedModules.{transformed_module}
 use Rattle.dwc_carry.specs.Inputs.{names_of, told_from, modules_from, modules_of, functions_from}
 

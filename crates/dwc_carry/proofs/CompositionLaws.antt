@@ -11,11 +11,11 @@ use Rattle.dwc_base.specs.Reading.{◌>>=◌}
 use Rattle.dwc_dwarf.specs.LineRows.{LineTable, segments}
 use Rattle.dwc_native.specs.Images.{is_carried_segment, IsImageOf}
 use Rattle.dwc_output.specs.SimulatedLines.{IsSimulated}
-use Rattle.dwc_rules.specs.Carried.{CarriedUnit, WantedUnit, own_unit, carried_unit, listed_unit, Module, Compilation}
+use Rattle.dwc_rules.specs.Carried.{CarriedUnit, WantedUnit, synthetic_unit, carried_unit, unit_of_simulated, Module, Compilation}
 use Rattle.dwc_dwarf.specs.ReadUnits.{Unit, units, table_of_unit, segments_of, segments_of_unit}
-use Rattle.dwc_carried.specs.LastUnit.{last_drafts, last_wanted, listed_in_files, widest_last, widest_listed}
+use Rattle.dwc_carried.specs.SimulatedUnitRules.{simulated_drafts, simulated_wanted, simulated_in_files, widest_simulated, widest_simulated_lines}
 use Rattle.dwc_carried.specs.LinesCarried.{CarriesUnit, HasLines, LinesCarried}
-use Rattle.dwc_carried.specs.ListedFunctions.{is_begun}
+use Rattle.dwc_carried.specs.SimulatedFunctions.{is_begun}
 use Rattle.dwc_carried.specs.OutputCarried.{widest_lines_of}
 use Rattle.dwc_rules.specs.DraftForests as Drafts
 use Rattle.dwc_carried.specs.Forests.{carried_units, first_refusal, forest, module_units, wanted_units, trees_made, is_big}
@@ -23,15 +23,16 @@ use Rattle.dwc_rules.specs.ModuleDrafts.{module_drafts}
 use Rattle.dwc_rules.specs.CarriedUnits.{carried_units_of, wanted_units_of}
 use Rattle.dwc_rules.specs.Refusals.{Refusal}
 use Rattle.dwc_dwarf.specs.Trees.{Tree}
-use Rattle.dwc_write.specs.GivenLines.{GivenLines}
-use Rattle.dwc_write.specs.GivenTrees.{given_trees}
-use Rattle.dwc_write.specs.GivenUnits.{GivenUnit, IsWritable, AreWritable, ordered}
-use Rattle.dwc_write.specs.ReadBack.{ReadsTable, ReadsLines, IsReadUnit, ReadsBack, given_segments}
-use Rattle.dwc_write.specs.UsedTexts.{HaveTexts}
-use Rattle.dwc_write.specs.WidestGiven.{widest_table_for, widest_unit, widest_given}
-use Rattle.dwc_write.proofs.AddedInOrderTrees.{trees-renumbered}
-use Rattle.dwc_write.specs.Renumbered.{place_at}
-use Rattle.dwc_write.proofs.AddedInOrderValues.{texts-in-order}
+use Rattle.dwc_unit.specs.GivenLines.{GivenLines}
+use Rattle.dwc_unit.specs.GivenTrees.{given_trees}
+use Rattle.dwc_unit.specs.GivenUnits.{GivenUnit, IsWritable, AreWritable, ordered}
+use Rattle.dwc_write.specs.ReadBack.{ReadsTable, ReadsLines, IsReadUnit, ReadsBack}
+use Rattle.dwc_unit.specs.GivenSegments.{given_segments}
+use Rattle.dwc_unit.specs.UsedTexts.{HaveTexts}
+use Rattle.dwc_unit.specs.WidestGiven.{widest_table_for, widest_unit, widest_given}
+use Rattle.dwc_unit.proofs.AddedInOrderTrees.{trees-renumbered}
+use Rattle.dwc_unit.specs.Renumbered.{place_at}
+use Rattle.dwc_unit.proofs.AddedInOrderValues.{texts-in-order}
 use Rattle.dwc_carry.specs.MadeUnits.{HasNamesOf, HasWantedLines, AreMadeOf}
 use Rattle.dwc_carry.proofs.MadeLaws.{all-both, all-flat, made-in-order, texts_of_entry}
 
@@ -66,9 +67,9 @@ module _ (at : ℕ → ℕ → Option (ℕ × ℕ)) (size : ℕ) (texts : List (
 
   -- a unit that is read back carries what it was made of
   carries-unit : (s : Sections) (w : WantedUnit) (u : GivenUnit) (v : Unit) → HasWantedLines w u → IsReadUnit s (ordered u) v → HasLines s w v
-  carries-unit s own_unit u v lines read = subst (ReadsLines s v u.lines) (ap (λ (g : GivenLines). g.address_size) lines) read.lines
+  carries-unit s synthetic_unit u v lines read = subst (ReadsLines s v u.lines) (ap (λ (g : GivenLines). g.address_size) lines) read.lines
   carries-unit s (carried_unit c) u v lines read = carries-lines s c u.lines v lines.table lines.table_read lines.names lines.images read.lines
-  carries-unit s (listed_unit name translated ms) u v lines read =
+  carries-unit s (unit_of_simulated name translated ms) u v lines read =
       let back : ReadsTable s v u.lines = subst (ReadsLines s v u.lines) lines.names.sized read.lines in
       record {
         made = back.table;
@@ -76,7 +77,7 @@ module _ (at : ℕ → ℕ → Option (ℕ × ℕ)) (size : ℕ) (texts : List (
         version = back.version;
         directories = back.directories ∙ lines.names.directories;
         files = back.files ∙ lines.names.files;
-        each = subst (AllZip (λ f segment. IsSimulated name f.0 f.1 segment) (listed_in_files translated ms)) (sym back.sequences) lines.segments;
+        each = subst (AllZip (λ f segment. IsSimulated name f.0 f.1 segment) (simulated_in_files translated ms)) (sym back.sequences) lines.segments;
       }
 
   carries-units : (s : Sections) (number : ℕ) (cs : List WantedUnit) (ts : List Tree) (us : List GivenUnit) (vs : List Unit) → AreMadeOf at size texts number cs ts us → AllZip (IsReadUnit s) (map ordered us) vs → AllZip (HasLines s) cs vs
@@ -110,14 +111,14 @@ module _ (at : ℕ → ℕ → Option (ℕ × ℕ)) (size : ℕ) (texts : List (
 
   -- the widest lines of a unit that is wanted
   abbrev widest_wanted : WantedUnit → ℕ
-  widest_wanted own_unit = 0
+  widest_wanted synthetic_unit = 0
   widest_wanted (carried_unit c) = widest_lines_of c
-  widest_wanted (listed_unit name translated ms) = widest_listed name (listed_in_files translated ms)
+  widest_wanted (unit_of_simulated name translated ms) = widest_simulated_lines name (simulated_in_files translated ms)
 
   unit-widest : (w : WantedUnit) (u : GivenUnit) → HasWantedLines w u → widest_table_for u.lines.address_size u.lines ≤ widest_wanted w
-  unit-widest own_unit u lines = subst (λ (g : GivenLines). widest_table_for g.address_size g ≤ 0) (sym lines) (omega arith)
+  unit-widest synthetic_unit u lines = subst (λ (g : GivenLines). widest_table_for g.address_size g ≤ 0) (sym lines) (omega arith)
   unit-widest (carried_unit c) u lines = lines.widest
-  unit-widest (listed_unit name translated ms) u lines = lines.widest
+  unit-widest (unit_of_simulated name translated ms) u lines = lines.widest
 
   made-widest : (number : ℕ) (cs : List WantedUnit) (ts : List Tree) (us : List GivenUnit) → AreMadeOf at size texts number cs ts us → sum_by (widest_unit Line) (map ordered us) ≤ sum_by widest_wanted cs
   made-widest number [] [] [] made = omega arith
@@ -128,7 +129,7 @@ module _ (at : ℕ → ℕ → Option (ℕ × ℕ)) (size : ℕ) (texts : List (
   made-widest number (c ∷ cs) (t ∷ ts) (u ∷ us) made =
       rw (sum_by-cons (widest_unit Line) (ordered u) (map ordered us), sum_by-cons widest_wanted c cs) (omega (arith, unit-widest c u made.0.has_lines, made-widest (suc number) cs ts us made.1))
 
-  -- own units have no lines
+  -- synthetic units have no lines
   widest-carried : (us : List CarriedUnit) → sum_by widest_wanted (map carried_unit us) ≡ sum_by widest_lines_of us
   widest-carried [] = refl
   widest-carried (u ∷ us) = rw (sum_by-cons widest_wanted (carried_unit u) (map carried_unit us), sum_by-cons widest_lines_of u us) (ap (λ n. widest_lines_of u + n) (widest-carried us))
@@ -137,20 +138,20 @@ module _ (at : ℕ → ℕ → Option (ℕ × ℕ)) (size : ℕ) (texts : List (
   widest-modules [] = refl
   widest-modules (m ∷ ms) =
       let rest = flat_map wanted_units_of ms in
-      let own = sum_by-cons widest_wanted own_unit (map carried_unit (carried_units_of m) ++ rest) in
+      let synthetic = sum_by-cons widest_wanted synthetic_unit (map carried_unit (carried_units_of m) ++ rest) in
       let split = sum_by-append widest_wanted (map carried_unit (carried_units_of m)) rest in
       let carried = sum_by-append widest_lines_of (carried_units_of m) (flat_map carried_units_of ms) in
-      omega (arith, own, split, carried, widest-carried (carried_units_of m), widest-modules ms)
+      omega (arith, synthetic, split, carried, widest-carried (carried_units_of m), widest-modules ms)
 
-  -- the last unit has its own
-  widest-behind : (translated : ℕ → Bool) (next_id : ℕ) (ms : List Module) → sum_by widest_wanted (last_wanted translated next_id ms) ≡ widest_last translated next_id ms
+  -- the simulated unit has its own
+  widest-behind : (translated : ℕ → Bool) (next_id : ℕ) (ms : List Module) → sum_by widest_wanted (simulated_wanted translated next_id ms) ≡ widest_simulated translated next_id ms
   widest-behind translated next_id [] = refl
   widest-behind translated next_id (m ∷ ms) = omega arith
 
   -- Their line tables are no longer, at their widest, than those of the input.
-  pub widest-given : (number : ℕ) (c : Compilation) (ts : List Tree) (us : List GivenUnit) → AreMadeOf at size texts number (wanted_units c) ts us → widest_given Line (map ordered us) ≤ sum_by widest_lines_of (carried_units c) + widest_last (is_begun c.modules) c.next_id c.modules
+  pub widest-given : (number : ℕ) (c : Compilation) (ts : List Tree) (us : List GivenUnit) → AreMadeOf at size texts number (wanted_units c) ts us → widest_given Line (map ordered us) ≤ sum_by widest_lines_of (carried_units c) + widest_simulated (is_begun c.modules) c.next_id c.modules
   widest-given number c ts us made =
-      omega (arith, made-widest number (wanted_units c) ts us made, sum_by-append widest_wanted (module_units c) (last_wanted (is_begun c.modules) c.next_id c.modules), widest-modules c.modules, widest-behind (is_begun c.modules) c.next_id c.modules)
+      omega (arith, made-widest number (wanted_units c) ts us made, sum_by-append widest_wanted (module_units c) (simulated_wanted (is_begun c.modules) c.next_id c.modules), widest-modules c.modules, widest-behind (is_begun c.modules) c.next_id c.modules)
 
   each-writable : (number : ℕ) (cs : List WantedUnit) (ts : List Tree) (us : List GivenUnit) → AreMadeOf at size texts number cs ts us → All (IsWritable size) (map ordered us)
   each-writable number [] [] [] made = All-nil (IsWritable size)
@@ -195,7 +196,7 @@ made-trees size texts cs ts us made =
     trees-renumbered texts said.depths us said.orders said.leads ∙ said.says
 
 -- The trees of an input are those of its modules, and the last.
-pub trees-of-all : (c : Compilation) → trees_made c ≡ Drafts.trees_from 0 (map (module_drafts (is_big c.order)) c.modules) ++ map (Drafts.settled_unit (λ goal. None)) (option_to_list (last_drafts (is_begun c.modules) c.next_id c.modules))
+pub trees-of-all : (c : Compilation) → trees_made c ≡ Drafts.trees_from 0 (map (module_drafts (is_big c.order)) c.modules) ++ map (Drafts.settled_unit (λ goal. None)) (option_to_list (simulated_drafts (is_begun c.modules) c.next_id c.modules))
 unfolding Drafts.forest
 trees-of-all c = refl
 

@@ -22,27 +22,27 @@ use Rattle.dwc_output.specs.FramesCarried.{FramesCarried, others_in}
 use Rattle.dwc_rules.specs.Refusals.{of_frame}
 use Rattle.dwc_dwarf.specs.Trees.{Tree}
 use Rattle.dwc_output.specs.WidestTrees.{widest_of_trees}
-use Rattle.dwc_write.specs.GivenTrees.{given_trees}
+use Rattle.dwc_unit.specs.GivenTrees.{given_trees}
 use Rattle.dwc_rules.specs.Carried.{Compilation}
 use Rattle.dwc_dwarf.specs.ReadUnits.{units}
-use Rattle.dwc_clif.specs.Registers.{Registers}
+use Rattle.dwc_isa.specs.Registers.{Registers}
 use Rattle.dwc_addr.specs.Compilations.{CompilationValue}
-use Rattle.dwc_write.specs.declared.error.WriteError.{WriteError}
-use Rattle.dwc_write.specs.declared.error.WriteError.TheVariants as write
-use Rattle.dwc_write.specs.GivenUnits.{GivenUnit, AreWritable, ordered, size_of}
-use Rattle.dwc_write.specs.Frames as frames
-use Rattle.dwc_write.specs.declared.frames.FrameTable.{FrameTable}
+use Rattle.dwc_section.specs.declared.error.WriteError.{WriteError}
+use Rattle.dwc_section.specs.declared.error.WriteError.TheVariants as write
+use Rattle.dwc_unit.specs.GivenUnits.{GivenUnit, AreWritable, ordered, size_of}
+use Rattle.dwc_frames.specs.Frames as frames
+use Rattle.dwc_frames.specs.declared.frames.FrameTable.{FrameTable}
 use Rattle.dwc_write.specs.ReadBack.{ReadsBack}
-use Rattle.dwc_write.specs.UsedTexts.{HaveTexts}
-use Rattle.dwc_write.specs.WidestGiven.{widest_said, IsWideRefusal}
+use Rattle.dwc_unit.specs.UsedTexts.{HaveTexts}
+use Rattle.dwc_unit.specs.WidestGiven.{widest_said, IsWideRefusal}
 use Rattle.dwc_write.specs.SpelledOutput.{AreSpelled}
-use Rattle.dwc_write.specs.Writers.{IsSound, IsPast}
+use Rattle.dwc_section.specs.Writers.{IsSound, IsPast}
 use Rattle.dwc_carry.specs.declared.error.DebugError.{DebugError}
 use Rattle.dwc_carry.specs.Refusals.{in_reading, Told, refused, limit, memory, told, IsCause, Refuses, of_writing}
 use Rattle.dwc_carry.specs.Inputs.{input_of, maps_refusal, refusal_of}
 use Rattle.dwc_carry.specs.Transformed.{IsTransformed}
 use Rattle.dwc_carry.specs.Emits.{PassesLimit, Emits}
-use Rattle.dwc_write.specs.Renumbered.{place_at}
+use Rattle.dwc_unit.specs.Renumbered.{place_at}
 use Rattle.dwc_carry.proofs.FramesRefused.{IsTable, frames-refused, refused-first, section-sized, table-refused, table-section, table-widest, unit-there}
 use Rattle.dwc_carry.proofs.CompositionLaws.{forest-is, lines-carried, made-sizes, made-trees, widest-given, made-writable}
 use Rattle.dwc_carry.proofs.RefusalLaws.{refuses-more, unmapped}

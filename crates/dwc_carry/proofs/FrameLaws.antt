@@ -2,13 +2,13 @@
 use Rattle.std.proofs.Common.{◌≡◌, ℕ, suc, ◌+◌, refl, ap₂, arith, List, [], ◌∷◌, ◌++◌, length, Option}
 use Rattle.std.specs.List.{flat_map}
 use Rattle.dwc_base.specs.declared.records.Endian.{Endian}
-use Rattle.dwc_base.specs.declared.wasm.ModuleTranslation.{ModuleTranslation}
+use Rattle.dwc_base.specs.declared.translation.ModuleTranslation.{ModuleTranslation}
 use Rattle.dwc_native.specs.CallFrames.{CommonEntry}
 use Rattle.dwc_native.specs.Compiled.{LinkageNames}
 use Rattle.dwc_carried.specs.Forests.{frame_descriptions}
 use Rattle.dwc_output.specs.FramesCarried.{descriptions}
-use Rattle.dwc_clif.specs.Registers.{Registers}
-use Rattle.dwc_addr.specs.declared.memory_offset.ModuleMemoryOffset.{ModuleMemoryOffset}
+use Rattle.dwc_isa.specs.Registers.{Registers}
+use Rattle.dwc_isa.specs.declared.memory_offset.ModuleMemoryOffset.{ModuleMemoryOffset}
 use Rattle.dwc_addr.specs.Numbers.{Compiled}
 use Rattle.dwc_addr.specs.Compilations.{CompilationValue, IsCounted}
 use Rattle.dwc_carry.specs.CompiledFrames.{all_frames}

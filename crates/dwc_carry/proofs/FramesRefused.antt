@@ -9,19 +9,19 @@ use Rattle.dwc_base.specs.declared.records.Endian.{Endian}
 use Rattle.dwc_native.specs.CallFrames.{CommonEntry, FrameDescription}
 use Rattle.dwc_rules.specs.Carried.{Compilation, Module}
 use Rattle.dwc_carried.specs.Forests.{frame_descriptions, function_refusals, module_refusals, refused_frames, wanted_units}
-use Rattle.dwc_carried.specs.LastUnit.{last_refusals}
-use Rattle.dwc_carried.specs.ListedFunctions.{is_begun}
+use Rattle.dwc_carried.specs.SimulatedUnitRules.{simulated_unit_refusals}
+use Rattle.dwc_carried.specs.SimulatedFunctions.{is_begun}
 use Rattle.dwc_native.specs.FrameRefusals.{FrameRefusal, frame_refusals}
 use Rattle.dwc_output.specs.FrameSections.{frame_section_if}
 use Rattle.dwc_output.specs.FramesCarried.{widest_frames}
 use Rattle.dwc_rules.specs.Refusals.{Refusal, of_frame}
 use Rattle.dwc_base.specs.Listing.{first_of}
 use Rattle.dwc_dwarf.specs.Trees.{Tree}
-use Rattle.dwc_clif.specs.Registers.{Registers}
+use Rattle.dwc_isa.specs.Registers.{Registers}
 use Rattle.dwc_addr.specs.Compilations.{CompilationValue}
-use Rattle.dwc_write.specs.Frames as write
-use Rattle.dwc_write.specs.GivenUnits.{GivenUnit, ordered, size_of}
-use Rattle.dwc_write.specs.declared.frames.FrameTable.{FrameTable}
+use Rattle.dwc_frames.specs.Frames as write
+use Rattle.dwc_unit.specs.GivenUnits.{GivenUnit, ordered, size_of}
+use Rattle.dwc_frames.specs.declared.frames.FrameTable.{FrameTable}
 use Rattle.dwc_carry.specs.CompiledFrames.{DescribesAll}
 use Rattle.dwc_carry.specs.Inputs.{input_of, maps_refusal, modules_of, refusal_of}
 use Rattle.dwc_carry.specs.MadeUnits.{AreMadeOf}
@@ -59,22 +59,22 @@ module _ (order : Endian) (size : ℕ) (registers : Registers) (entry : Option C
   abbrev modules_refused : List Refusal
   modules_refused = flat_map module_refusals (modules_of registers c)
 
-  abbrev last_refused : List Refusal
-  last_refused = last_refusals (is_begun (modules_of registers c)) c.next_id (modules_of registers c)
+  abbrev simulated_refused : List Refusal
+  simulated_refused = simulated_unit_refusals (is_begun (modules_of registers c)) c.next_id (modules_of registers c)
 
   abbrev frames_refused : List Refusal
   frames_refused = refused_frames (input_of order size registers entry c)
 
   -- what is refused of an input without its frames is refused of it
   pub refused-first : (r : InputRefusal) → refusal_of order size registers None c ≡ Some r → refusal_of order size registers entry c ≡ Some r
-  refused-first r = go (maps_refusal c) (first_of (functions_refused ++ (modules_refused ++ (last_refused ++ [])))) refl
+  refused-first r = go (maps_refusal c) (first_of (functions_refused ++ (modules_refused ++ (simulated_refused ++ [])))) refl
     where
-      mapped : (o : Option Refusal) → first_of (functions_refused ++ (modules_refused ++ (last_refused ++ []))) ≡ o → option_map in_reading o ≡ Some r → option_map in_reading (first_of (functions_refused ++ (modules_refused ++ (last_refused ++ frames_refused)))) ≡ Some r
+      mapped : (o : Option Refusal) → first_of (functions_refused ++ (modules_refused ++ (simulated_refused ++ []))) ≡ o → option_map in_reading o ≡ Some r → option_map in_reading (first_of (functions_refused ++ (modules_refused ++ (simulated_refused ++ frames_refused)))) ≡ Some r
       mapped None is h = absurd (cc)
-      mapped (Some x) is h = ap (option_map in_reading) (first-of-all functions_refused modules_refused last_refused frames_refused x is) ∙ h
+      mapped (Some x) is h = ap (option_map in_reading) (first-of-all functions_refused modules_refused simulated_refused frames_refused x is) ∙ h
 
-      go : (maps : Option InputRefusal) (o : Option Refusal) → first_of (functions_refused ++ (modules_refused ++ (last_refused ++ []))) ≡ o → option_or maps (option_map in_reading (first_of (functions_refused ++ (modules_refused ++ (last_refused ++ []))))) ≡ Some r
-          → option_or maps (option_map in_reading (first_of (functions_refused ++ (modules_refused ++ (last_refused ++ frames_refused))))) ≡ Some r
+      go : (maps : Option InputRefusal) (o : Option Refusal) → first_of (functions_refused ++ (modules_refused ++ (simulated_refused ++ []))) ≡ o → option_or maps (option_map in_reading (first_of (functions_refused ++ (modules_refused ++ (simulated_refused ++ []))))) ≡ Some r
+          → option_or maps (option_map in_reading (first_of (functions_refused ++ (modules_refused ++ (simulated_refused ++ frames_refused))))) ≡ Some r
       go (Some x) o is h = h
       go None o is h = mapped o is (ap (option_map in_reading) (sym is) ∙ h)
 
@@ -83,13 +83,13 @@ module _ (order : Endian) (size : ℕ) (registers : Registers) (entry : Option C
       → refusal_of order size registers entry c ≡ option_map in_reading (option_map of_frame (write.first_refusal (frame_refusals entry (frame_descriptions (input_of order size registers entry c)))))
   frames-refused = go (maps_refusal c)
     where
-      go : (maps : Option InputRefusal) → option_or maps (option_map in_reading (first_of (functions_refused ++ (modules_refused ++ (last_refused ++ []))))) ≡ None
-          → option_or maps (option_map in_reading (first_of (functions_refused ++ (modules_refused ++ (last_refused ++ frames_refused)))))
+      go : (maps : Option InputRefusal) → option_or maps (option_map in_reading (first_of (functions_refused ++ (modules_refused ++ (simulated_refused ++ []))))) ≡ None
+          → option_or maps (option_map in_reading (first_of (functions_refused ++ (modules_refused ++ (simulated_refused ++ frames_refused)))))
           ≡ option_map in_reading (option_map of_frame (write.first_refusal (frame_refusals entry (frame_descriptions (input_of order size registers entry c)))))
       go (Some x) h = absurd (cc)
       go None h =
           ap (option_map in_reading)
-          (none-before functions_refused modules_refused last_refused frames_refused (unmapped in_reading (first_of (functions_refused ++ (modules_refused ++ (last_refused ++ [])))) h)
+          (none-before functions_refused modules_refused simulated_refused frames_refused (unmapped in_reading (first_of (functions_refused ++ (modules_refused ++ (simulated_refused ++ [])))) h)
           ∙ first-mapped (frame_refusals entry (frame_descriptions (input_of order size registers entry c))))
 
 -- ---- tables

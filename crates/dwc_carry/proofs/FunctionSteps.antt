@@ -6,13 +6,13 @@ use Rattle.std.specs.Option.{unwrap_or}
 use Rattle.std.proofs.lemmas.List.{drop_all, drop_more, length-map}
 use Rattle.std.proofs.lemmas.List.Elements.{All-get_or}
 use Rattle.std.proofs.lemmas.Option.{get_or_from_slice_get, slice_get-get_or, slice_get-map, slice_get_within}
-use Rattle.dwc_base.specs.declared.wasm.ModuleTranslation.{ModuleTranslation}
+use Rattle.dwc_base.specs.declared.translation.ModuleTranslation.{ModuleTranslation}
 use Rattle.dwc_rules.specs.Carried.{Module}
 use Rattle.dwc_native.specs.Compiled.{ToldModule}
 use Rattle.dwc_carried.specs.DefinedFunctions.{DefinedFunction, types_at}
 use Rattle.dwc_rules.specs.Drafts.{Draft}
 use Rattle.dwc_native.specs.Functions.{Function, Recorded}
-use Rattle.dwc_carried.specs.ListedFunctions.{defined_from, is_listed, listed_among, listed_functions}
+use Rattle.dwc_carried.specs.SimulatedFunctions.{defined_from, is_simulated, simulated_among, simulated_functions}
 use Rattle.dwc_rules.specs.LocationRules.{frame_told}
 use Rattle.dwc_rules.specs.Refusals.{Refusal}
 use Rattle.dwc_base.specs.Listing.{first_of}
@@ -20,25 +20,25 @@ use Rattle.dwc_carried.specs.SimulatedUnit.{first_source, function_entries, func
 use Rattle.dwc_base.specs.ToldFiles.{ToldFile}
 use Rattle.dwc_base.specs.TranslationNames.{told_file}
 use Rattle.dwc_dwarf.specs.Trees.{TreeValue}
-use Rattle.dwc_clif.specs.Registers.{Registers}
+use Rattle.dwc_isa.specs.Registers.{Registers}
 use Rattle.dwc_addr.specs.declared.address_map.AddressMap.{AddressMap}
 use Rattle.dwc_addr.specs.declared.function_map.FunctionMap.{FunctionMap}
 use Rattle.dwc_addr.specs.Runs.{recorded_view}
 use Rattle.dwc_addr.specs.Transforms.{function_view}
 use Rattle.dwc_addr.proofs.EntryLaws.{recorded-merged}
 use Rattle.dwc_expr.specs.Frames.{frame_view}
-use Rattle.dwc_write.specs.declared.strings.StringId.{StringId}
-use Rattle.dwc_write.specs.AddedInOrder.{with_entry}
-use Rattle.dwc_write.specs.GivenUnits.{GivenUnit}
-use Rattle.dwc_clone.specs.CompiledModules.{AreNumberedFrom, told_by}
-use Rattle.dwc_clone.specs.KnownTexts.{IsNumbered}
-use Rattle.dwc_clone.specs.MadeValues.{Grows}
+use Rattle.dwc_unit.specs.declared.strings.StringId.{StringId}
+use Rattle.dwc_unit.specs.AddedInOrder.{with_entry}
+use Rattle.dwc_unit.specs.GivenUnits.{GivenUnit}
+use Rattle.dwc_source.specs.CompiledModules.{AreNumberedFrom, told_by}
+use Rattle.dwc_source.specs.KnownTexts.{IsNumbered}
+use Rattle.dwc_source.specs.MadeValues.{Grows}
 use Rattle.dwc_carry.specs.declared.error.DebugError.{DebugError}
-use Rattle.dwc_carry.specs.declared.simulated_functions.ListedModule.{ListedModule}
-use Rattle.dwc_carry.specs.declared.simulated_variables.ListedFunction.{ListedFunction}
-use Rattle.dwc_carry.specs.ListedModules.{GivesFunction, IsListedModule, LeftFunctions, listed_from}
-use Rattle.dwc_carry.specs.ListedVariables.{GivesVariables, IsListedFunction, label_refusals}
-use Rattle.dwc_carry.specs.OwnUnits.{reference_meant}
+use Rattle.dwc_carry.specs.declared.simulated_functions.SimulatedModule.{SimulatedModule}
+use Rattle.dwc_carry.specs.declared.simulated_variables.SimulatedFunction.{SimulatedFunction}
+use Rattle.dwc_carry.specs.SimulatedModules.{GivesFunction, IsSimulatedModule, LeftFunctions, simulated_from}
+use Rattle.dwc_carry.specs.SimulatedVariables.{GivesVariables, IsSimulatedFunction, label_refusals}
+use Rattle.dwc_carry.specs.SyntheticUnits.{reference_meant}
 use Rattle.dwc_carry.specs.Refusals.{ReadsOr, RefusesReading, in_reading}
 use Rattle.dwc_carry.specs.SimulatedAdditions.{subprogram_addition}
 use Rattle.dwc_carry.specs.SimulatedDrafts.{HasFunctions, HasVariables, IsSimulated}
@@ -116,11 +116,11 @@ numbered-at first count fs place number x all found symbol =
 pub never-none : {A : Type 0} (x : A) → ◌≡◌ {A = Option A} None (Some x) → ⊥
 never-none x is = absurd (cc)
 
-module _ (registers : Registers) (m : Module) (l : ListedModule) (lm : IsListedModule registers m l) (place : ℕ) (x : Function) where
-  -- What is given of a listed function of a listed module tells that function.
-  pub function-listed : (f : ListedFunction) → l.translation.now.imported_funcs + place ≡ f.index → f.locals.now ≡ types_at m (record { place = place; function = x }) → frame_view (Some f.frame) ≡ Some (frame_told (told_by registers l.compiled.now) x) → f.scope ≡ (x.start, x.end)
-      → IsListedFunction registers m (record { place = place; function = x }) l f
-  function-listed f index locals frame scope = record {
+module _ (registers : Registers) (m : Module) (l : SimulatedModule) (lm : IsSimulatedModule registers m l) (place : ℕ) (x : Function) where
+  -- What is given of a simulated function of a simulated module tells that function.
+  pub function-simulated : (f : SimulatedFunction) → l.translation.now.imported_funcs + place ≡ f.index → f.locals.now ≡ types_at m (record { place = place; function = x }) → frame_view (Some f.frame) ≡ Some (frame_told (told_by registers l.compiled.now) x) → f.scope ≡ (x.start, x.end)
+      → IsSimulatedFunction registers m (record { place = place; function = x }) l f
+  function-simulated f index locals frame scope = record {
     file = lm.file;
     index = ap (λ (file : ToldFile). file.imported + place) lm.file ∙ index;
     locals = locals;
@@ -156,36 +156,36 @@ module _ (registers : Registers) (m : Module) (l : ListedModule) (lm : IsListedM
       go (Ok done) given = (ap (λ (rs : List Refusal). option_map in_reading (first_of rs)) all ∙ given.0, variables-done n (reference_meant l.vmctx_ptr) m d before texts entry u given.1)
       go (Err e) given = subst (λ (rs : List Refusal). RefusesReading (first_of rs) e) (sym all) given
 
--- A function whose number is among the translated ones is none of the listed ones, and the others with a symbol are listed.
-pub listed-unless : (translated : ℕ → Bool) (x : Function) (number : ℕ) (b : Bool) → x.symbol ≡ Some number → x.number ≡ number → translated number ≡ b → is_listed translated x ≡ not b
-listed-unless translated x number b symbol numbered is = ap (λ (o : Option ℕ). is_some o && not (translated x.number)) symbol ∙ ap (λ n. not (translated n)) numbered ∙ ap not is
+-- A function whose number is among the translated ones is none of the simulated ones, and the others with a symbol are simulated.
+pub simulated-unless : (translated : ℕ → Bool) (x : Function) (number : ℕ) (b : Bool) → x.symbol ≡ Some number → x.number ≡ number → translated number ≡ b → is_simulated translated x ≡ not b
+simulated-unless translated x number b symbol numbered is = ap (λ (o : Option ℕ). is_some o && not (translated x.number)) symbol ∙ ap (λ n. not (translated n)) numbered ∙ ap not is
 
 -- ---- what is left
 
--- What is listed from a place on: the function there, if it is, and what is behind it.
-pub listed-step : (translated : ℕ → Bool) (m : Module) (i : ℕ) (f : Function) → i < length m.functions → get_or m.functions i f ≡ f
-    → listed_from translated m i ≡ cond (is_listed translated f) (record { place = i; function = f } ∷ listed_from translated m (i + 1)) (listed_from translated m (i + 1))
-listed-step translated m i f inside there =
-    ap (λ fs. listed_among translated (defined_from i fs)) (drop_more m.functions i f inside ∙ ap (λ g. g ∷ drop (i + 1) m.functions) there)
-    ∙ ap (λ n. cond (is_listed translated f) (record { place = i; function = f } ∷ listed_among translated (defined_from n (drop (i + 1) m.functions))) (listed_among translated (defined_from n (drop (i + 1) m.functions)))) (sym (add-one i))
+-- What is simulated from a place on: the function there, if it is, and what is behind it.
+pub simulated-step : (translated : ℕ → Bool) (m : Module) (i : ℕ) (f : Function) → i < length m.functions → get_or m.functions i f ≡ f
+    → simulated_from translated m i ≡ cond (is_simulated translated f) (record { place = i; function = f } ∷ simulated_from translated m (i + 1)) (simulated_from translated m (i + 1))
+simulated-step translated m i f inside there =
+    ap (λ fs. simulated_among translated (defined_from i fs)) (drop_more m.functions i f inside ∙ ap (λ g. g ∷ drop (i + 1) m.functions) there)
+    ∙ ap (λ n. cond (is_simulated translated f) (record { place = i; function = f } ∷ simulated_among translated (defined_from n (drop (i + 1) m.functions))) (simulated_among translated (defined_from n (drop (i + 1) m.functions)))) (sym (add-one i))
 
 module _ (translated : ℕ → Bool) (n : ℕ) (pointer : TreeValue) (m : Module) (behind whole : List Draft) (place : ℕ) (x : Function) (total : Option Refusal) (found : slice_get m.functions place ≡ Some x) where
-  step : (b : Bool) → is_listed translated x ≡ b → listed_from translated m place ≡ cond b (record { place = place; function = x } ∷ listed_from translated m (place + 1)) (listed_from translated m (place + 1))
+  step : (b : Bool) → is_simulated translated x ≡ b → simulated_from translated m place ≡ cond b (record { place = place; function = x } ∷ simulated_from translated m (place + 1)) (simulated_from translated m (place + 1))
   step b is =
-      listed-step translated m place x (slice_get_within m.functions place x found) (get_or_from_slice_get m.functions place x x found)
-      ∙ ap (λ (b : Bool). cond {A = List DefinedFunction} b (record { place = place; function = x } ∷ listed_from translated m (place + 1)) (listed_from translated m (place + 1))) is
+      simulated-step translated m place x (slice_get_within m.functions place x found) (get_or_from_slice_get m.functions place x x found)
+      ∙ ap (λ (b : Bool). cond {A = List DefinedFunction} b (record { place = place; function = x } ∷ simulated_from translated m (place + 1)) (simulated_from translated m (place + 1))) is
 
-  -- A function that is not listed is passed by.
-  pub left-unlisted : (texts : List (List ℕ)) (u : GivenUnit) → is_listed translated x ≡ false → LeftFunctions n pointer m behind whole (listed_from translated m place) total texts u → LeftFunctions n pointer m behind whole (listed_from translated m (place + 1)) total texts u
-  left-unlisted texts u is left = subst (λ ds. LeftFunctions n pointer m behind whole ds total texts u) (step false is) left
+  -- A function that is not simulated is passed by.
+  pub left-passed : (texts : List (List ℕ)) (u : GivenUnit) → is_simulated translated x ≡ false → LeftFunctions n pointer m behind whole (simulated_from translated m place) total texts u → LeftFunctions n pointer m behind whole (simulated_from translated m (place + 1)) total texts u
+  left-passed texts u is left = subst (λ ds. LeftFunctions n pointer m behind whole ds total texts u) (step false is) left
 
-  pub left-unnamed : (texts : List (List ℕ)) (u : GivenUnit) → x.symbol ≡ None → LeftFunctions n pointer m behind whole (listed_from translated m place) total texts u → LeftFunctions n pointer m behind whole (listed_from translated m (place + 1)) total texts u
-  left-unnamed texts u none left = left-unlisted texts u (ap (λ (o : Option ℕ). is_some o && not (translated x.number)) none) left
+  pub left-unnamed : (texts : List (List ℕ)) (u : GivenUnit) → x.symbol ≡ None → LeftFunctions n pointer m behind whole (simulated_from translated m place) total texts u → LeftFunctions n pointer m behind whole (simulated_from translated m (place + 1)) total texts u
+  left-unnamed texts u none left = left-passed texts u (ap (λ (o : Option ℕ). is_some o && not (translated x.number)) none) left
 
-  -- One that is listed is the first of those that are left.
-  pub left-listed : (texts : List (List ℕ)) (u : GivenUnit) → is_listed translated x ≡ true → LeftFunctions n pointer m behind whole (listed_from translated m place) total texts u
-      → LeftFunctions n pointer m behind whole (record { place = place; function = x } ∷ listed_from translated m (place + 1)) total texts u
-  left-listed texts u is left = subst (λ ds. LeftFunctions n pointer m behind whole ds total texts u) (step true is) left
+  -- One that is simulated is the first of those that are left.
+  pub left-simulated : (texts : List (List ℕ)) (u : GivenUnit) → is_simulated translated x ≡ true → LeftFunctions n pointer m behind whole (simulated_from translated m place) total texts u
+      → LeftFunctions n pointer m behind whole (record { place = place; function = x } ∷ simulated_from translated m (place + 1)) total texts u
+  left-simulated texts u is left = subst (λ ds. LeftFunctions n pointer m behind whole ds total texts u) (step true is) left
 
 -- It is added, or its first refusal is answered, which is that of all.
 pub function-gives : (n : ℕ) (pointer : TreeValue) (m : Module) (behind whole : List Draft) (d : DefinedFunction) (rest : List DefinedFunction) (total : Option Refusal) (old new : List (List ℕ)) (u v : GivenUnit) (left : LeftFunctions n pointer m behind whole (d ∷ rest) total old u) (result : Result (Unit {0}) DebugError)
@@ -198,15 +198,15 @@ function-gives n pointer m behind whole d rest total old new u v left (Err e) gi
     reading-more (first_of (variable_refusals m d)) total e (λ r is. sym left.first ∙ first-behind (variable_refusals m d) (flat_map (variable_refusals m) rest) r is) gives
 
 module _ (translated : ℕ → Bool) (n : ℕ) (pointer : TreeValue) (m : Module) (behind whole : List Draft) (texts : List (List ℕ)) (u : GivenUnit) where
-  -- Before the first function all listed ones are left.
-  pub functions-left : HasFunctions n pointer m texts behind whole (listed_functions translated m) u → LeftFunctions n pointer m behind whole (listed_from translated m 0) (first_of (flat_map (variable_refusals m) (listed_functions translated m))) texts u
-  unfolding listed_functions
+  -- Before the first function all simulated ones are left.
+  pub functions-left : HasFunctions n pointer m texts behind whole (simulated_functions translated m) u → LeftFunctions n pointer m behind whole (simulated_from translated m 0) (first_of (flat_map (variable_refusals m) (simulated_functions translated m))) texts u
+  unfolding simulated_functions
   functions-left has = record { made = has; first = refl }
 
   -- Behind the last one none is left.
-  pub functions-past : (place : ℕ) (total : Option Refusal) → length m.functions ≤ place → LeftFunctions n pointer m behind whole (listed_from translated m place) total texts u → (option_map in_reading total ≡ None) × HasFunctions n pointer m texts behind whole [] u
+  pub functions-past : (place : ℕ) (total : Option Refusal) → length m.functions ≤ place → LeftFunctions n pointer m behind whole (simulated_from translated m place) total texts u → (option_map in_reading total ≡ None) × HasFunctions n pointer m texts behind whole [] u
   functions-past place total past left =
-      let gone : listed_from translated m place ≡ [] = ap (λ fs. listed_among translated (defined_from place fs)) (drop_all place m.functions past) in
+      let gone : simulated_from translated m place ≡ [] = ap (λ fs. simulated_among translated (defined_from place fs)) (drop_all place m.functions past) in
       let none : LeftFunctions n pointer m behind whole [] total texts u = subst (λ ds. LeftFunctions n pointer m behind whole ds total texts u) gone left in
       (ap (option_map in_reading) (sym none.first), none.made)
 

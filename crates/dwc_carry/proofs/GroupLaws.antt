@@ -4,7 +4,7 @@ use Rattle.std.specs.Prelude.{nat_le, option_map, slice_get}
 use Rattle.std.specs.List.Sorted.{IsNonDecreasingBy, IsPartitionPoint}
 use Rattle.std.proofs.lemmas.Bool.{cases_lt, leb-true, leb-false, lt-ltb, le-ltb}
 use Rattle.std.proofs.lemmas.List.{append_assoc, append-nil, drop_all, drop_more, get_or_append_left, get_or_push, length_push}
-use Rattle.dwc_base.specs.declared.wasm.ValType.{ValType}
+use Rattle.dwc_base.specs.declared.translation.ValType.{ValType}
 use Rattle.dwc_base.specs.ToldFiles.{type_in_groups}
 use Rattle.dwc_carry.specs.declared.local_types.LocalGroup.{LocalGroup}
 use Rattle.dwc_carry.specs.LocalGroups.{groups_from}

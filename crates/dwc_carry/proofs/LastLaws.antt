@@ -6,9 +6,9 @@ use Rattle.dwc_base.specs.Sections.{Sections}
 use Rattle.dwc_base.specs.Units.{UnitHeader}
 use Rattle.dwc_dwarf.specs.Indexed.{text_base}
 use Rattle.dwc_native.specs.Functions.{Function}
-use Rattle.dwc_write.specs.declared.units.UnitId.{UnitId}
-use Rattle.dwc_write.specs.GivenUnits.{GivenUnit}
-use Rattle.dwc_clone.specs.declared.files.UnitFiles.{UnitFiles}
+use Rattle.dwc_unit.specs.declared.units.UnitId.{UnitId}
+use Rattle.dwc_unit.specs.GivenUnits.{GivenUnit}
+use Rattle.dwc_source.specs.declared.files.UnitFiles.{UnitFiles}
 use Rattle.dwc_carry.specs.declared.last_lines.LastLines.{LastLines}
 use Rattle.dwc_carry.specs.UnitPrograms.{CarriesNamed, CarriesTableAt}
 use Rattle.dwc_carry.specs.LastLines.{IsCarriedIn, IsLast, last_after}

@@ -2,9 +2,9 @@ pub mod BegunLaws
 pub mod CauseLaws
 pub mod MadeAdditions
 pub mod MadeTexts
-pub mod OwnMade
-pub mod OwnBuilt
-pub mod OwnModules
+pub mod SyntheticMade
+pub mod SyntheticBuilt
+pub mod SyntheticModules
 pub mod SimulatedAdded
 pub mod SimulatedLaws
 pub mod SimulatedRoots
@@ -23,8 +23,8 @@ pub mod FramesAdded
 pub mod FrameLaws
 pub mod FramesRefused
 pub mod LastLaws
-pub mod LastLocations
-pub mod LastTargets
+pub mod SimulatedUnitLocations
+pub mod OutputTargets
 pub mod MadeLaws
 pub mod LengthLaws
 pub mod LinesNamed
@@ -46,10 +46,10 @@ pub mod WalkLaws
 pub mod NameSearch
 pub mod PlainNames
 pub mod GroupLaws
-pub mod ListedLaws
-pub mod ListedSteps
+pub mod SimulatedCodeLaws
+pub mod SimulatedFunctionSteps
 pub mod PathLaws
 pub mod SimulatedModuleLaws
-pub mod LastUnitLaws
+pub mod SimulatedUnitMade
 mod OutputNameLaws
 pub mod SettledLaws

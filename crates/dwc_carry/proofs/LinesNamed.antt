@@ -32,11 +32,11 @@ use Rattle.dwc_native.specs.ScopesKept.{native_of_intervals}
 use Rattle.dwc_rules.specs.EntryRules.{code_rules, rules_of_source, wrappers_of}
 use Rattle.dwc_rules.proofs.ForestLaws.{Each, each_chosen}
 use Rattle.dwc_clone.specs.GivenAttributes.{Attribute}
-use Rattle.dwc_write.specs.declared.attributes.AttributeValue.{AttributeValue}
-use Rattle.dwc_write.specs.declared.attributes.AttributeValue.TheVariants.{Address, Constant, Flag, Block, Exprloc, StringRef, LineProgramRef, RangeListRef, LocationListRef, UnitRef, DebugInfoRef}
-use Rattle.dwc_write.specs.declared.attributes.DebugInfoRef.TheVariants as references
-use Rattle.dwc_write.specs.GivenUnits.{Addition, in_file_order, is_lines, names_lines_in, names_lines}
-use Rattle.dwc_write.specs.AddedInOrder.{value_meant, attribute_meant, tree_meant}
+use Rattle.dwc_unit.specs.declared.attributes.AttributeValue.{AttributeValue}
+use Rattle.dwc_unit.specs.declared.attributes.AttributeValue.TheVariants.{Address, Constant, Flag, Block, Exprloc, StringRef, LineProgramRef, RangeListRef, LocationListRef, UnitRef, DebugInfoRef}
+use Rattle.dwc_unit.specs.declared.attributes.DebugInfoRef.TheVariants as references
+use Rattle.dwc_unit.specs.GivenUnits.{Addition, in_file_order, is_lines, names_lines_in, names_lines}
+use Rattle.dwc_unit.specs.AddedInOrder.{value_meant, attribute_meant, tree_meant}
 
 -- whether a value is a line table, and whether one stands under its name
 abbrev is_table : TreeValue → Bool

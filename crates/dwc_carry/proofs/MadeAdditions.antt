@@ -2,10 +2,10 @@
 use Rattle.std.proofs.Common.{◌≡◌, ℕ, zero, suc, ◌+◌, ◌<◌, List, [], ◌∷◌, ◌++◌, length, length-append, map, drop, get_or, refl, ap, sym, ◌∙◌, subst, arith, Some}
 use Rattle.std.proofs.lemmas.List.{drop_more}
 use Rattle.std.specs.Prelude.{fold}
-use Rattle.dwc_write.specs.GivenUnits.{Addition, GivenUnit, FitsValue, IsAdded, place_of, places_from, set_attribute, with_child, with_next, with_value}
-use Rattle.dwc_write.specs.AddedInOrder.{with_entry}
-use Rattle.dwc_write.proofs.AddedInOrderUnits.{entry-known, entry-set, places-more}
-use Rattle.dwc_write.proofs.UnitLaws.{child-next}
+use Rattle.dwc_unit.specs.GivenUnits.{Addition, GivenUnit, FitsValue, IsAdded, place_of, places_from, set_attribute, with_child, with_next, with_value}
+use Rattle.dwc_unit.specs.AddedInOrder.{with_entry}
+use Rattle.dwc_unit.proofs.AddedInOrderUnits.{entry-known, entry-set, places-more}
+use Rattle.dwc_unit.proofs.UnitLaws.{child-next}
 use Rattle.dwc_clone.specs.GivenAttributes.{Attribute}
 use Rattle.dwc_clone.proofs.EntryValues.{value-places}
 use Rattle.dwc_carry.specs.declared.made_entries.MadeEntry.{MadeEntry}

@@ -6,12 +6,12 @@ use Rattle.std.proofs.lemmas.List.Elements.{All-nil, All-cons, All-head, All-tai
 use Rattle.dwc_rules.specs.Carried.{WantedUnit}
 use Rattle.dwc_dwarf.specs.Trees.{Tree}
 use Rattle.std.specs.Prelude.{slice_get, option_map, option_and_then}
-use Rattle.dwc_write.specs.GivenUnits.{Addition, GivenUnit, place_of}
-use Rattle.dwc_write.specs.UsedTexts.{texts_of_attributes}
-use Rattle.dwc_write.specs.AddedInOrder.{IsInOrder, trees_meant}
-use Rattle.dwc_write.specs.Renumbered.{LeadsToEntries, place_at, renumbered_entry, renumbered_trees}
-use Rattle.dwc_write.proofs.AddedInOrderValues.{tree-meant-more}
-use Rattle.dwc_clone.specs.MadeValues.{Grows}
+use Rattle.dwc_unit.specs.GivenUnits.{Addition, GivenUnit, place_of}
+use Rattle.dwc_unit.specs.UsedTexts.{texts_of_attributes}
+use Rattle.dwc_unit.specs.AddedInOrder.{IsInOrder, trees_meant}
+use Rattle.dwc_unit.specs.Renumbered.{LeadsToEntries, place_at, renumbered_entry, renumbered_trees}
+use Rattle.dwc_unit.proofs.AddedInOrderValues.{tree-meant-more}
+use Rattle.dwc_source.specs.MadeValues.{Grows}
 use Rattle.dwc_carry.specs.MadeUnits.{LeadsTo, IsMadeOf, AreMadeOf}
 
 -- ---- tables of texts that grow

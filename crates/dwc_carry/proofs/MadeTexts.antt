@@ -7,11 +7,11 @@ use Rattle.std.proofs.lemmas.List.Elements.{All-nil, All-cons}
 use Rattle.std.proofs.lemmas.Bool.{and_parts, ltb-true}
 use Rattle.std.specs.Prelude.{nat_lt, true}
 use Rattle.dwc_dwarf.specs.TreeLaws.{with_new_text}
-use Rattle.dwc_write.specs.declared.strings.StringId.{StringId}
-use Rattle.dwc_write.specs.TextTables.{IsText}
-use Rattle.dwc_write.specs.UsedTexts.{text_numbered}
-use Rattle.dwc_clone.specs.MadeValues.{Grows}
-use Rattle.dwc_clone.proofs.TextLaws.{added}
+use Rattle.dwc_unit.specs.declared.strings.StringId.{StringId}
+use Rattle.dwc_unit.specs.TextTables.{IsText}
+use Rattle.dwc_unit.specs.UsedTexts.{text_numbered}
+use Rattle.dwc_source.specs.MadeValues.{Grows}
+use Rattle.dwc_source.proofs.TextLaws.{added}
 use Rattle.dwc_carry.specs.MadeEntries.{number_of, numbers_added, texts_added}
 use Rattle.dwc_carry.proofs.MadeLaws.{grows-same, grows-twice}
 

@@ -18,7 +18,7 @@ use Rattle.dwc_read.specs.declared.fault.ReadFault.{ReadFault}
 use Rattle.dwc_read.specs.declared.fault.ReadFault.TheVariants as read
 use Rattle.dwc_read.specs.Faults.{fault_seen}
 use Rattle.dwc_kept.specs.ReadEntries.{TellsFirst}
-use Rattle.dwc_write.specs.declared.units.Dwarf.{Dwarf}
+use Rattle.dwc_unit.specs.declared.units.Dwarf.{Dwarf}
 use Rattle.dwc_carry.specs.declared.error.DebugError.{DebugError}
 use Rattle.dwc_carry.specs.declared.error.DebugError.TheVariants.{Unsupported}
 use Rattle.dwc_carry.specs.Refusals.{in_reading, of_reading, RefusesReading}
@@ -60,6 +60,6 @@ module _ (m : Module) (plain : m.compressed ≡ None) where
     refusals-are = refusals-plain ∙ none-mapped (info_faults (named_faults m.sections) m.sections) (flat_map (refusals_of m) (carried_in (kept_of m))) none
 
     -- What is answered for its units is answered for it.
-    pub module-gives : (own : ℕ) (old new : Dwarf) (result : Result (Prim.Unit {0}) DebugError) → GivesUnits size big_endian m own old new result → GivesCarried size big_endian m own old new result
-    module-gives own old new (Ok done) h = (ap (λ (rs : List Refusal). option_map in_reading (first_of rs)) refusals-are ∙ h.0, record { units_added = h.1; whole = whole })
-    module-gives own old new (Err e) h = subst (λ rs. RefusesReading (first_of rs) e) (sym refusals-are) h
+    pub module-gives : (synthetic : ℕ) (old new : Dwarf) (result : Result (Prim.Unit {0}) DebugError) → GivesUnits size big_endian m synthetic old new result → GivesCarried size big_endian m synthetic old new result
+    module-gives synthetic old new (Ok done) h = (ap (λ (rs : List Refusal). option_map in_reading (first_of rs)) refusals-are ∙ h.0, record { units_added = h.1; whole = whole })
+    module-gives synthetic old new (Err e) h = subst (λ rs. RefusesReading (first_of rs) e) (sym refusals-are) h

@@ -13,29 +13,29 @@ use Rattle.dwc_rules.specs.DraftForests.{units_drafted, place_of_goal, settled_u
 use Rattle.dwc_carried.specs.Forests.{module_refusals}
 use Rattle.dwc_rules.specs.ModuleDrafts.{module_drafts}
 use Rattle.dwc_rules.specs.CarriedUnits.{wanted_units_of}
-use Rattle.dwc_carried.specs.ListedFunctions.{begun_in_module}
+use Rattle.dwc_carried.specs.SimulatedFunctions.{begun_in_module}
 use Rattle.dwc_rules.specs.RangeAttributes.{is_number_of}
-use Rattle.dwc_rules.specs.OwnUnits.{place_of_context_pointer}
+use Rattle.dwc_rules.specs.SyntheticUnit.{place_of_context_pointer}
 use Rattle.dwc_carried.specs.SimulatedUnit.{unit_count}
 use Rattle.dwc_dwarf.specs.Trees.{Tree}
-use Rattle.dwc_write.specs.GivenUnits.{GivenUnit}
-use Rattle.dwc_write.specs.declared.attributes.DebugInfoRef.{DebugInfoRef}
+use Rattle.dwc_unit.specs.GivenUnits.{GivenUnit}
+use Rattle.dwc_unit.specs.declared.attributes.DebugInfoRef.{DebugInfoRef}
 use Rattle.dwc_clone.specs.BegunNumbers.{NotesFunctions}
-use Rattle.dwc_clone.specs.MadeValues.{Grows}
+use Rattle.dwc_source.specs.MadeValues.{Grows}
 use Rattle.dwc_clone.proofs.BegunNumberLaws.{AreNotedSoFar, none-noted, noted-done, noted-more}
 use Rattle.dwc_carry.specs.declared.error.DebugError.{DebugError}
 use Rattle.dwc_carry.specs.Refusals.{in_reading, RefusesReading}
 use Rattle.dwc_carry.specs.MadeUnits.{LeadsTo, AreMadeOf}
 use Rattle.dwc_carry.specs.declared.carry_modules.CarriedModules.{CarriedModules}
 use Rattle.dwc_carry.specs.CarriedModules.{AddsModules}
-use Rattle.dwc_carry.specs.LastUnits.{ReferToContexts}
-use Rattle.dwc_carry.specs.OwnUnits.{entry_of}
+use Rattle.dwc_carry.specs.SimulatedUnits.{ReferToContexts}
+use Rattle.dwc_carry.specs.SyntheticUnits.{entry_of}
 use Rattle.dwc_carry.specs.SimulatedDrafts.{ContextsStay}
 use Rattle.dwc_carry.proofs.MadeLaws.{grows-same, grows-twice, leads-behind, leads-front, made-both, made-grown, made-length}
 use Rattle.dwc_carry.proofs.RefusalLaws.{first-behind, no-first, reading-more, unmapped}
 
 -- Units are added that are made for a module, whose units are read to their ends, and that are to say its trees; the table of texts has
--- grown. The pointer to the module's context has its number in its own unit, the first of them.
+-- grown. The pointer to the module's context has its number in its synthetic unit, the first of them.
 pub record AddsModule (size : ℕ) (big_endian : Bool) (m : Module) (old new : List GivenUnit) (before after : List (List ℕ)) : Type 0 where
   pub made : List GivenUnit
   pub added : new ≡ old ++ made

@@ -8,8 +8,8 @@ use Rattle.dwc_native.specs.Compiled.{nothing_told}
 use Rattle.dwc_base.specs.ToldFiles.{bare_file}
 use Rattle.dwc_kept.specs.declared.read_unit.ReadUnit.{ReadUnit}
 use Rattle.dwc_kept.specs.declared.kept_units.KeptModule.{KeptModule}
-use Rattle.dwc_clone.specs.declared.places.EmittedEntry.{EmittedEntry}
-use Rattle.dwc_clone.specs.OutputPlaces.{numbered, offsets_of}
+use Rattle.dwc_source.specs.declared.places.EmittedEntry.{EmittedEntry}
+use Rattle.dwc_source.specs.OutputPlaces.{numbered, offsets_of}
 use Rattle.dwc_carry.specs.ModulePlaces.{IsKept, carried_offsets, emitted, numbered_lists}
 use Rattle.dwc_carry.proofs.UnitsInOrder.{rises-front, rises-order, module-rises, RisesFrom}
 use Rattle.dwc_carry.proofs.PlaceLaws.{offsets-behind, numbered-offsets, lists-offsets}

@@ -10,10 +10,10 @@ use Rattle.std.specs.List.Sorted.{IsStrictlySortedBy, IsPartitionPoint, IsPartit
 use Rattle.std.proofs.lemmas.Bool.{true≢false, and_from, and_parts, cases_lt, eq-eqb, eqb-true, lt-ltb, ltb-true, ltb-false, false_from_ne_true, or_cases, or_left, or_right}
 use Rattle.std.proofs.lemmas.List.{get_or-map, length-map}
 use Rattle.std.proofs.lemmas.Map.Keys.{Less-from_sorted, below_from_sorted}
-use Rattle.dwc_base.specs.NamesRead.{function_name_view, local_name_view}
+use Rattle.dwc_base.specs.TranslationNames.{function_name_view, local_name_view}
 use Rattle.dwc_base.specs.Reading.{coded}
 use Rattle.dwc_base.specs.SortedEntries.{pair_cmp}
-use Rattle.dwc_carry.specs.ListedNames.{is_before, name_among}
+use Rattle.dwc_carry.specs.SimulatedNames.{is_before, name_among}
 
 -- ---- the first of some things
 

@@ -11,14 +11,15 @@ use Rattle.dwc_output.specs.FrameSections.{frame_section, frame_section_if}
 use Rattle.dwc_output.specs.OutputForm.{are_of_output, stand_in_order}
 use Rattle.dwc_base.specs.Outputs.{OutputRelocation, OutputSection}
 use Rattle.dwc_base.specs.Sections.{section_text}
-use Rattle.dwc_write.specs.declared.frames.FrameTable.{FrameTable}
-use Rattle.dwc_write.specs.Frames.{common_given, descriptions_given, given_frames}
-use Rattle.dwc_write.specs.GivenUnits.{GivenUnit, OrderedUnit, ordered, size_of}
+use Rattle.dwc_frames.specs.declared.frames.FrameTable.{FrameTable}
+use Rattle.dwc_frames.specs.Frames.{common_given, descriptions_given}
+use Rattle.dwc_write.specs.GivenFrames.{given_frames}
+use Rattle.dwc_unit.specs.GivenUnits.{GivenUnit, OrderedUnit, ordered, size_of}
 use Rattle.dwc_write.specs.Layouts.{written_tables}
-use Rattle.dwc_write.specs.Lists.{locations_in, ranges_in}
+use Rattle.dwc_unit.specs.Lists.{locations_in, ranges_in}
 use Rattle.dwc_write.specs.SpelledOutput.{abbrev_bytes, all_info_bytes, all_lines_bytes, all_lists_bytes, all_lists_relocations, all_places, section_unless_empty, spelled_sections, units_placed}
 use Rattle.dwc_write.specs.SpelledRelocations.{info_relocations, lines_relocations}
-use Rattle.dwc_write.specs.UsedTexts.{strings_bytes}
+use Rattle.dwc_unit.specs.UsedTexts.{strings_bytes}
 
 -- What stands among some names stands behind the first of them too, and so does one section less.
 weaker-by : (name : SectionName) (names : List SectionName) (ss : List OutputSection) → ((s : OutputSection) (others : List OutputSection) → stand_in_order names (s ∷ others) ≡ true → stand_in_order names others ≡ true) → stand_in_order names ss ≡ true

@@ -7,19 +7,19 @@ use Rattle.std.specs.Option.{option_or, unwrap_or}
 use Rattle.std.proofs.lemmas.Fmt.{decimal_is_IsNumeral}
 use Rattle.std.proofs.lemmas.Str.Parse.{digit_at}
 use Rattle.std.proofs.lemmas.List.Elements.{All-append, All-drop, All-from_get_or, All-take}
-use Rattle.dwc_base.specs.declared.wasm.ModuleTranslation.{ModuleTranslation}
+use Rattle.dwc_base.specs.declared.translation.ModuleTranslation.{ModuleTranslation}
 use Rattle.dwc_rules.specs.Carried.{Module}
 use Rattle.dwc_native.specs.Compiled.{ToldModule}
 use Rattle.dwc_base.specs.TranslationNames.{told_file}
 use Rattle.dwc_carried.specs.UnitPaths.{cut_path, is_file_name, is_slash, numbered_path, path_name, unit_path, without_zero}
-use Rattle.dwc_clif.specs.Registers.{Registers}
+use Rattle.dwc_isa.specs.Registers.{Registers}
 use Rattle.dwc_addr.specs.Compilations.{CompilationValue, IsCounted}
 use Rattle.dwc_addr.specs.Numbers.{Compiled}
-use Rattle.dwc_write.specs.SpelledLines.{FitsName}
-use Rattle.dwc_write.specs.TextTables.{IsText}
+use Rattle.dwc_unit.specs.SpelledLines.{FitsName}
+use Rattle.dwc_unit.specs.TextTables.{IsText}
 use Rattle.dwc_carry.specs.declared.unit_path.UnitPath.{UnitPath}
 use Rattle.dwc_carry.specs.Inputs.{counted_behind, modules_from, modules_of, names_of, told_from}
-use Rattle.dwc_carry.specs.LastUnits.{IsPathOf, counted_name}
+use Rattle.dwc_carry.specs.SimulatedUnits.{IsPathOf, counted_name}
 use Rattle.dwc_carry.specs.UnitPathParts.{IsUnitPath}
 use Rattle.dwc_carry.proofs.CompiledLaws.{counted-length, told-length}
 use Rattle.dwc_carry.proofs.PlainNames.{plain_bytes}

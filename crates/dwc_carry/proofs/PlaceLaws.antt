@@ -7,8 +7,8 @@ use Rattle.std.proofs.lemmas.Bool.{ne_eqb}
 use Rattle.std.proofs.lemmas.Iterator.Adapters.{position_from-zero}
 use Rattle.std.proofs.lemmas.List.Elements.{All-head, All-tail, All-weaker}
 use Rattle.dwc_dwarf.specs.Trees.{place_among}
-use Rattle.dwc_clone.specs.declared.places.EmittedEntry.{EmittedEntry}
-use Rattle.dwc_clone.specs.OutputPlaces.{numbered, offsets_of, place_of}
+use Rattle.dwc_source.specs.declared.places.EmittedEntry.{EmittedEntry}
+use Rattle.dwc_source.specs.OutputPlaces.{numbered, offsets_of, place_of}
 use Rattle.dwc_carry.specs.ModulePlaces.{numbered_lists}
 use Rattle.dwc_carry.proofs.UnitsInOrder.{joined}
 

@@ -7,7 +7,7 @@ use Rattle.std.proofs.lemmas.Fmt.{decimal_is_IsNumeral}
 use Rattle.std.proofs.lemmas.Str.Parse.{digit_at}
 use Rattle.std.proofs.lemmas.Bool.{or_parts, eqb-false}
 use Rattle.std.proofs.lemmas.List.Elements.{All-append, All-cons, All-nil, All-from_get_or}
-use Rattle.dwc_carry.specs.ListedNames.{numbered_function, numbered_local}
+use Rattle.dwc_carry.specs.SimulatedNames.{numbered_function, numbered_local}
 
 -- bytes without a zero
 pub plain_bytes : (bytes : List ℕ) → list_any (λ b. b == 0) bytes ≡ false → All (λ b. 0 < b) bytes

@@ -6,18 +6,18 @@ use Rattle.dwc_base.specs.Sections.{Sections, Fault}
 use Rattle.dwc_base.specs.Abbreviations.{Declaration, abbreviation_table}
 use Rattle.dwc_base.specs.Units.{UnitHeader}
 use Rattle.dwc_dwarf.specs.Entries.{entries, entries_from, root_place}
-use Rattle.dwc_rules.specs.Targets.{entry_listed, entry_begun_at}
+use Rattle.dwc_rules.specs.Targets.{entry_in_listing, entry_begun_at}
 use Rattle.dwc_read.specs.Faults.{Refuses}
 
 -- the entries of a unit whose abbreviation table is read
-listed : (s : Sections) (h : UnitHeader) (table : List Declaration) → abbreviation_table s h.abbreviations ≡ Ok table → entries s h ≡ entries_from s h table (root_place h)
+entries-by_table : (s : Sections) (h : UnitHeader) (table : List Declaration) → abbreviation_table s h.abbreviations ≡ Ok table → entries s h ≡ entries_from s h table (root_place h)
 unfolding entries
-listed s h table is = ap (λ (t : Result (List Declaration) Fault). elim t [ Err fault ↦ only_fault fault | Ok found ↦ entries_from s h found (root_place h) ]) is
+entries-by_table s h table is = ap (λ (t : Result (List Declaration) Fault). elim t [ Err fault ↦ only_fault fault | Ok found ↦ entries_from s h found (root_place h) ]) is
 
 -- the entry at a place, where the unit's abbreviation table is read
-pub begun-listed : (s : Sections) (h : UnitHeader) (place : ℕ) (table : List Declaration) → abbreviation_table s h.abbreviations ≡ Ok table → entry_begun_at s h place ≡ entry_listed place (entries s h)
+pub begun-in_listing : (s : Sections) (h : UnitHeader) (place : ℕ) (table : List Declaration) → abbreviation_table s h.abbreviations ≡ Ok table → entry_begun_at s h place ≡ entry_in_listing place (entries s h)
 unfolding entry_begun_at
-begun-listed s h place table is = ap (λ t. t >>= λ found. entry_listed place (entries_from s h found (root_place h))) is ∙ ap (entry_listed place) (sym (listed s h table is))
+begun-in_listing s h place table is = ap (λ t. t >>= λ found. entry_in_listing place (entries_from s h found (root_place h))) is ∙ ap (entry_in_listing place) (sym (entries-by_table s h table is))
 
 -- and where it cannot be
 pub begun-unread : (s : Sections) (h : UnitHeader) (place : ℕ) (fault : Fault) → abbreviation_table s h.abbreviations ≡ Err fault → entry_begun_at s h place ≡ Err fault

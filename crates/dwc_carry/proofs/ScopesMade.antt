@@ -5,7 +5,7 @@ use Rattle.std.specs.Prelude.{option_map}
 use Rattle.std.specs.Option.{option_or}
 use Rattle.std.proofs.lemmas.List.Elements.{All-nil, All-cons}
 use Rattle.dwc_base.specs.declared.records.Endian.{Endian}
-use Rattle.dwc_base.specs.declared.wasm.ModuleTranslation.{ModuleTranslation}
+use Rattle.dwc_base.specs.declared.translation.ModuleTranslation.{ModuleTranslation}
 use Rattle.dwc_native.specs.CallFrames.{CommonEntry}
 use Rattle.dwc_native.specs.Functions.{AddressMap, Function, functions_of}
 use Rattle.dwc_rules.specs.Carried.{Module}
@@ -16,21 +16,21 @@ use Rattle.dwc_rules.specs.ScopesCarried.{ScopesCarried}
 use Rattle.dwc_native.specs.ScopesKept.{AreNumbered, TranslationsKeepScopes}
 use Rattle.dwc_carried.proofs.LocationForest.{made-locations}
 use Rattle.dwc_carried.proofs.ScopeForest.{made-scopes}
-use Rattle.dwc_clif.specs.AddressMaps.{address_map_view}
-use Rattle.dwc_clif.specs.Registers.{Registers}
+use Rattle.dwc_compiled.specs.AddressMaps.{address_map_view}
+use Rattle.dwc_isa.specs.Registers.{Registers}
 use Rattle.dwc_addr.specs.Numbers.{Compiled}
 use Rattle.dwc_addr.specs.Compilations.{CompilationValue}
 use Rattle.dwc_addr.specs.Transforms.{first_bad_map}
-use Rattle.dwc_write.specs.GivenTrees.{given_trees}
-use Rattle.dwc_write.specs.GivenUnits.{GivenUnit, ordered}
+use Rattle.dwc_unit.specs.GivenTrees.{given_trees}
+use Rattle.dwc_unit.specs.GivenUnits.{GivenUnit, ordered}
 use Rattle.dwc_carry.specs.Refusals.{in_reading}
-use Rattle.dwc_write.specs.Renumbered.{place_at}
+use Rattle.dwc_unit.specs.Renumbered.{place_at}
 use Rattle.dwc_carried.specs.ContextsCarried.{ContextsCarried}
 use Rattle.dwc_carried.proofs.ContextForest.{made-contexts}
 use Rattle.dwc_carry.specs.MadeUnits.{AreMadeOf}
 use Rattle.dwc_carry.specs.Inputs.{names_of, module_view, modules_from, told_from, input_of, bad_map_from, bad_map, maps_refusal, refusal_of}
 use Rattle.dwc_carry.proofs.CompositionLaws.{made-trees}
-use Rattle.dwc_carry.proofs.LastLocations.{last-located}
+use Rattle.dwc_carry.proofs.SimulatedUnitLocations.{simulated_unit-located}
 use Rattle.dwc_carry.proofs.RefusalLaws.{unmapped}
 
 -- functions of good maps have numbers of their own
@@ -76,7 +76,7 @@ module _ (number_maps : MapsNumber) where
       let read : first_refusal input ≡ None = unmapped in_reading (first_refusal input) both.1 in
       let numbered = modules-numbered 0 0 c.translations c.functions (told_from registers (names_of c) 0 0 c.functions c.memory_offsets) good in
       subst (LocationsCarried (drafts_of (is_big order)) (wanted_units input)) (sym (made-trees size texts (wanted_units input) (trees_made input) us made))
-      (made-locations input numbered keep read (last-located (drafts_of (is_big order)) input numbered keep read))
+      (made-locations input numbered keep read (simulated_unit-located (drafts_of (is_big order)) input numbered keep read))
 
   -- And so the variables of its functions' contexts stand where they are to.
   pub contexts-carried : (order : Endian) (size : ℕ) (registers : Registers) (entry : Option CommonEntry) (c : CompilationValue) (texts : List (List ℕ)) (us : List GivenUnit) → refusal_of order size registers entry c ≡ None

@@ -10,7 +10,7 @@ use Rattle.dwc_output.specs.TreeReading.{entry_or_nothing}
 use Rattle.dwc_rules.specs.Drafts.{Goal, DraftValue, done, goes_to, Draft}
 use Rattle.dwc_rules.specs.DraftForests.{settled, settled_entry, settled_unit}
 use Rattle.dwc_rules.proofs.ForestLaws.{Each, SaysNoPlace, EntrySaysNoPlace, UnitSaysNoPlace}
-use Rattle.dwc_write.specs.Renumbered.{renumbered, renumbered_attribute, renumbered_entry}
+use Rattle.dwc_unit.specs.Renumbered.{renumbered, renumbered_attribute, renumbered_entry}
 
 -- A goal has a number exactly where it has a place, which is that of the number.
 abbrev pub IsPutAt : (ℕ → ℕ → Option (ℕ × ℕ)) → (Goal → Option (ℕ × ℕ)) → (Goal → Option (ℕ × ℕ)) → Goal → Type 0

@@ -3,19 +3,19 @@ use Rattle.std.proofs.Common.{◌≡◌, ℕ, ◌<◌, [], ◌∷◌, length, Li
 use Rattle.std.specs.Prelude.{pos}
 use Rattle.dwc_base.specs.declared.constants.TheConstants.{DW_AT_decl_file, DW_AT_decl_line, DW_AT_high_pc, DW_AT_location, DW_AT_low_pc, DW_AT_name, DW_AT_type, DW_FORM_udata, DW_TAG_subprogram, DW_TAG_variable}
 use Rattle.dwc_base.specs.declared.records.Address.TheVariants.{Symbol}
-use Rattle.dwc_write.specs.declared.attributes.AttributeValue.TheVariants as write
-use Rattle.dwc_write.specs.declared.attributes.DebugInfoRef.{DebugInfoRef}
-use Rattle.dwc_write.specs.LocationLists.{LocationList}
-use Rattle.dwc_write.specs.declared.strings.StringId.{StringId}
-use Rattle.dwc_write.specs.declared.units.UnitEntryId.{UnitEntryId}
-use Rattle.dwc_write.specs.AddedInOrder.{with_entry}
-use Rattle.dwc_write.specs.GivenUnits.{Addition, GivenUnit, IsAdded, with_child, with_next, with_value}
-use Rattle.dwc_write.proofs.AddedInOrderUnits.{entry-known, entry-set, numbered-child, numbered-next}
+use Rattle.dwc_unit.specs.declared.attributes.AttributeValue.TheVariants as write
+use Rattle.dwc_unit.specs.declared.attributes.DebugInfoRef.{DebugInfoRef}
+use Rattle.dwc_unit.specs.LocationLists.{LocationList}
+use Rattle.dwc_unit.specs.declared.strings.StringId.{StringId}
+use Rattle.dwc_unit.specs.declared.units.UnitEntryId.{UnitEntryId}
+use Rattle.dwc_unit.specs.AddedInOrder.{with_entry}
+use Rattle.dwc_unit.specs.GivenUnits.{Addition, GivenUnit, IsAdded, with_child, with_next, with_value}
+use Rattle.dwc_unit.proofs.AddedInOrderUnits.{entry-known, entry-set, numbered-child, numbered-next}
 use Rattle.dwc_clone.specs.ContextPlaces.{with_variable}
 use Rattle.dwc_carry.specs.declared.made_entries.MadeValue.{MadeValue}
 use Rattle.dwc_carry.specs.declared.made_entries.MadeValue.TheVariants.{Text, Constant, Entry}
 use Rattle.dwc_carry.specs.MadeEntries.{IsDense, with_attributes}
-use Rattle.dwc_carry.specs.OwnAdditions.{below}
+use Rattle.dwc_carry.specs.SyntheticAdditions.{below}
 use Rattle.dwc_carry.specs.SimulatedAdditions.{context_addition, local_addition, subprogram_addition}
 use Rattle.dwc_carry.proofs.MadeAdditions.{entry-dense, last-given}
 

@@ -12,27 +12,27 @@ use Rattle.dwc_rules.specs.DraftForests.{settled_entry}
 use Rattle.dwc_rules.specs.Drafts.{Draft}
 use Rattle.dwc_native.specs.Functions.{Function}
 use Rattle.dwc_native.specs.Parts.{context_label}
-use Rattle.dwc_carried.specs.SimulatedUnit.{base_type, base_types, context_entry, first_source, function_entry, function_index, function_name, label_located, local_entry, local_name, local_tag, surroundings_of}
-use Rattle.dwc_write.specs.declared.attributes.DebugInfoRef.{DebugInfoRef}
-use Rattle.dwc_write.specs.declared.attributes.DebugInfoRef.TheVariants.{Entry}
-use Rattle.dwc_write.specs.LocationLists.{LocationList}
-use Rattle.dwc_write.specs.declared.strings.StringId.{StringId}
-use Rattle.dwc_write.specs.AddedInOrder.{IsInOrder, with_entry}
-use Rattle.dwc_write.specs.GivenUnits.{Addition, GivenUnit}
-use Rattle.dwc_write.specs.Lists.{location_of}
-use Rattle.dwc_write.proofs.AddedInOrderUnits.{numbered-leads, place-last}
+use Rattle.dwc_carried.specs.SimulatedUnit.{base_type, base_types, context_entry, first_source, function_entry, function_index, function_name, label_locations, local_entry, local_name, local_tag, surroundings_of}
+use Rattle.dwc_unit.specs.declared.attributes.DebugInfoRef.{DebugInfoRef}
+use Rattle.dwc_unit.specs.declared.attributes.DebugInfoRef.TheVariants.{Entry}
+use Rattle.dwc_unit.specs.LocationLists.{LocationList}
+use Rattle.dwc_unit.specs.declared.strings.StringId.{StringId}
+use Rattle.dwc_unit.specs.AddedInOrder.{IsInOrder, with_entry}
+use Rattle.dwc_unit.specs.GivenUnits.{Addition, GivenUnit}
+use Rattle.dwc_unit.specs.Lists.{location_of}
+use Rattle.dwc_unit.proofs.AddedInOrderUnits.{numbered-leads, place-last}
 use Rattle.dwc_clone.specs.ClonedEntries.{IsLastOf}
 use Rattle.dwc_clone.specs.ClonedUnits.{draft_depths}
 use Rattle.dwc_clone.specs.ContextPlaces.{HasContext}
-use Rattle.dwc_clone.specs.KnownTexts.{IsNumbered}
-use Rattle.dwc_clone.specs.MadeValues.{Grows}
+use Rattle.dwc_source.specs.KnownTexts.{IsNumbered}
+use Rattle.dwc_source.specs.MadeValues.{Grows}
 use Rattle.dwc_clone.proofs.DraftedUnits.{Follows, drafted-more, drafted-texts}
 use Rattle.dwc_clone.proofs.DraftSteps.{next-keeps, next_places}
 use Rattle.dwc_clone.proofs.EntryPaths.{last-before, last-new}
 use Rattle.dwc_clone.proofs.EntryValues.{grows-not}
 use Rattle.dwc_carry.specs.declared.simulated_entries.TypeTexts.{TypeTexts}
 use Rattle.dwc_carry.specs.MadeEntries.{with_additions}
-use Rattle.dwc_carry.specs.OwnUnits.{reference_meant}
+use Rattle.dwc_carry.specs.SyntheticUnits.{reference_meant}
 use Rattle.dwc_carry.specs.SimulatedAdditions.{context_addition, local_addition, subprogram_addition, type_addition, type_additions, type_names, type_texts_of}
 use Rattle.dwc_carry.specs.SimulatedDrafts.{HasFunction, IsSimulated, SaysDraft}
 use Rattle.dwc_carry.proofs.MadeAdditions.{entry-dense}
@@ -126,7 +126,7 @@ module _ (number : ℕ) (texts : List (List ℕ)) where
       }
 
   -- a parameter or a variable
-  pub says-local : (m : Module) (d : DefinedFunction) (n place parent : ℕ) (name : StringId) (list : LocationList) → IsNumbered texts (local_name m d n) name → label_located m d.function n ≡ Ok (map location_of list.locations.items)
+  pub says-local : (m : Module) (d : DefinedFunction) (n place parent : ℕ) (name : StringId) (list : LocationList) → IsNumbered texts (local_name m d n) name → label_locations m d.function n ≡ Ok (map location_of list.locations.items)
       → SaysDraft number texts (local_entry number m d n place) (local_addition parent (local_tag m d n) name place list)
   says-local m d n place parent name list known located = record {
     origin = refl;
@@ -135,7 +135,7 @@ module _ (number : ℕ) (texts : List (List ℕ)) where
   }
 
   -- the context, whose type is referred to
-  pub says-context : (m : Module) (d : DefinedFunction) (parent : ℕ) (name : StringId) (type : DebugInfoRef) (list : LocationList) → IsNumbered texts (codes "__vmctx") name → label_located m d.function context_label ≡ Ok (map location_of list.locations.items)
+  pub says-context : (m : Module) (d : DefinedFunction) (parent : ℕ) (name : StringId) (type : DebugInfoRef) (list : LocationList) → IsNumbered texts (codes "__vmctx") name → label_locations m d.function context_label ≡ Ok (map location_of list.locations.items)
       → SaysDraft number texts (context_entry (reference_meant type) m d) (context_addition parent name type list)
   says-context m d parent name (Entry unit id) list known located = record {
     origin = refl;
@@ -144,8 +144,8 @@ module _ (number : ℕ) (texts : List (List ℕ)) where
   }
 
 -- Where a label lies over all of a function, by what surrounds it.
-pub located-is : (m : Module) (f : Function) (label : ℕ) (s : Surroundings) → s ≡ surroundings_of m f → label_over s ((f.start, f.end) ∷ []) label ≡ label_located m f label
-unfolding label_located
+pub located-is : (m : Module) (f : Function) (label : ℕ) (s : Surroundings) → s ≡ surroundings_of m f → label_over s ((f.start, f.end) ∷ []) label ≡ label_locations m f label
+unfolding label_locations
 located-is m f label s is = ap (λ x. label_over x ((f.start, f.end) ∷ []) label) is
 
 -- ---- the whole of each call
@@ -186,14 +186,14 @@ module _ (number : ℕ) (old new : List (List ℕ)) (grows : Grows old new) (ds 
       (child-simulated number old new grows ds u so (function_entry m d) (subprogram_addition name symbol size line) (says-function number new m d name symbol size line known symbol_is size_is line_is) refl refl)
 
   -- A parameter or a variable of the last function.
-  pub local-simulated : (u v : GivenUnit) (n place parent : ℕ) (name : StringId) (list : LocationList) → HasFunction number old ds parent u → IsNumbered new (local_name m d n) name → label_located m d.function n ≡ Ok (map location_of list.locations.items)
+  pub local-simulated : (u v : GivenUnit) (n place parent : ℕ) (name : StringId) (list : LocationList) → HasFunction number old ds parent u → IsNumbered new (local_name m d n) name → label_locations m d.function n ≡ Ok (map location_of list.locations.items)
       → v ≡ with_entry (local_addition parent (local_tag m d n) name place list) u → HasFunction number new (ds ++ local_entry number m d n place ∷ []) parent v
   local-simulated u v n place parent name list so known located is =
       subst (λ w. HasFunction number new (ds ++ local_entry number m d n place ∷ []) parent w) (sym is)
       (variable-simulated number old new grows ds u so.simulated (local_entry number m d n place) (local_addition parent (local_tag m d n) name place list) (says-local number new m d n place parent name list known located) parent so.last refl refl)
 
   -- The context of the last function, whose type is referred to.
-  pub context-simulated : (u v : GivenUnit) (parent : ℕ) (type : DebugInfoRef) → HasFunction number old ds parent u → HasContext (label_located m d.function context_label) parent type new u v
+  pub context-simulated : (u v : GivenUnit) (parent : ℕ) (type : DebugInfoRef) → HasFunction number old ds parent u → HasContext (label_locations m d.function context_label) parent type new u v
       → HasFunction number new (ds ++ context_entry (reference_meant type) m d ∷ []) parent v
   context-simulated u v parent type so has =
       let order = so.simulated.drafted.order in

@@ -8,12 +8,12 @@ use Rattle.dwc_rules.specs.DraftForests.{settled_unit}
 use Rattle.dwc_rules.specs.Drafts.{Draft}
 use Rattle.dwc_carried.specs.SimulatedUnit.{base_types, modules_entries, simulated_root, simulated_unit, whole_intervals}
 use Rattle.dwc_dwarf.specs.Trees.{TreeValue}
-use Rattle.dwc_write.specs.declared.lists.RangeList.{RangeList}
-use Rattle.dwc_write.specs.AddedInOrder.{with_entry}
-use Rattle.dwc_write.specs.GivenLines.{GivenLines}
-use Rattle.dwc_write.specs.GivenUnits.{Addition, GivenUnit, IsWritable, names_lines, in_file_order, ordered}
-use Rattle.dwc_write.specs.Renumbered.{renumbered, renumbered_entry}
-use Rattle.dwc_write.proofs.AddedInOrderUnits.{numbered-place}
+use Rattle.dwc_unit.specs.declared.lists.RangeList.{RangeList}
+use Rattle.dwc_unit.specs.AddedInOrder.{with_entry}
+use Rattle.dwc_unit.specs.GivenLines.{GivenLines}
+use Rattle.dwc_unit.specs.GivenUnits.{Addition, GivenUnit, IsWritable, names_lines, in_file_order, ordered}
+use Rattle.dwc_unit.specs.Renumbered.{renumbered, renumbered_entry}
+use Rattle.dwc_unit.proofs.AddedInOrderUnits.{numbered-place}
 use Rattle.dwc_clone.specs.ClonedUnits.{draft_depths}
 use Rattle.dwc_carry.specs.declared.simulated_root.RootTexts.{RootTexts}
 use Rattle.dwc_carry.specs.MadeEntries.{IsDense, with_additions}

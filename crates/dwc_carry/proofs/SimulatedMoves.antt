@@ -5,21 +5,21 @@ use Rattle.std.specs.Prelude.{◌==◌, codes, IfSome, option_map, option_and_th
 use Rattle.std.specs.List.{cons_option, filter_map, flat_map}
 use Rattle.std.proofs.lemmas.List.{map-append}
 use Rattle.dwc_rules.specs.Carried.{Module}
-use Rattle.dwc_rules.specs.ContextVariable.{located_or_none}
+use Rattle.dwc_rules.specs.ContextVariable.{locations_or_none}
 use Rattle.dwc_carried.specs.DefinedFunctions.{DefinedFunction, types_at}
 use Rattle.dwc_rules.specs.DraftForests.{settled_entry, settled_unit}
 use Rattle.dwc_rules.specs.Drafts.{Draft, Goal, done}
-use Rattle.dwc_carried.specs.ListedFunctions.{listed_functions}
+use Rattle.dwc_carried.specs.SimulatedFunctions.{simulated_functions}
 use Rattle.dwc_rules.specs.MadeEntries.{made, named}
 use Rattle.dwc_native.specs.Parts.{context_label}
-use Rattle.dwc_carried.specs.SimulatedUnit.{base_types, context_entry, function_entries, function_entry, label_entry, local_entry, local_name, local_tag, label_located, modules_entries, place_of_type, simulated_root, simulated_unit, type_place, whole_intervals}
+use Rattle.dwc_carried.specs.SimulatedUnit.{base_types, context_entry, function_entries, function_entry, label_entry, local_entry, local_name, local_tag, label_locations, modules_entries, place_of_type, simulated_root, simulated_unit, type_place, whole_intervals}
 use Rattle.dwc_base.specs.ToldFiles.{type_of_local}
 use Rattle.dwc_output.specs.TreeReading.{entry_or_nothing}
 use Rattle.dwc_dwarf.specs.Trees.{Location, TreeEntry, TreeValue, locations, text}
 use Rattle.dwc_base.specs.declared.constants.TheConstants.{DW_AT_location, DW_AT_name, DW_AT_type, DW_TAG_variable}
-use Rattle.dwc_base.specs.declared.wasm.ValType.{ValType}
-use Rattle.dwc_base.specs.declared.wasm.ValType.TheVariants.{I32, I64, F32, F64, Other}
-use Rattle.dwc_write.specs.Renumbered.{renumbered, renumbered_entry}
+use Rattle.dwc_base.specs.declared.translation.ValType.{ValType}
+use Rattle.dwc_base.specs.declared.translation.ValType.TheVariants.{I32, I64, F32, F64, Other}
+use Rattle.dwc_unit.specs.Renumbered.{renumbered, renumbered_entry}
 
 module _ (at : ℕ → ℕ → Option (ℕ × ℕ)) where
   -- an entry says what another does with numbers put to places
@@ -73,7 +73,7 @@ module _ (at : ℕ → ℕ → Option (ℕ × ℕ)) where
     module _ (pointer : TreeValue) (m : Module) (d : DefinedFunction) where
       local-moves : (n place : ℕ) → IsThere place → Moves (local_entry unit m d n place) (local_entry unit m d n place)
       local-moves n place there =
-          ap (λ (o : Option (ℕ × ℕ)). record { depth = 2; tag = local_tag m d n; attributes = (DW_AT_name, text (local_name m d n)) ∷ (DW_AT_type, entry_or_nothing o) ∷ (DW_AT_location, locations (located_or_none (label_located m d.function n))) ∷ [] }) there
+          ap (λ (o : Option (ℕ × ℕ)). record { depth = 2; tag = local_tag m d n; attributes = (DW_AT_name, text (local_name m d n)) ∷ (DW_AT_type, entry_or_nothing o) ∷ (DW_AT_location, locations (locations_or_none (label_locations m d.function n))) ∷ [] }) there
 
       local-more : (n : ℕ) (o : Option ℕ) → IfSome o IsThere → (more others : List Draft) → AllMove more others → AllMove (cons_option (option_map (local_entry unit m d n) o) more) (cons_option (option_map (local_entry unit m d n) o) others)
       local-more n None there more others h = h
@@ -81,7 +81,7 @@ module _ (at : ℕ → ℕ → Option (ℕ × ℕ)) where
 
       -- the context's type moves
       context-moves : Moves (context_entry pointer m d) (context_entry (renumbered at pointer) m d)
-      context-moves = variable-moves DW_TAG_variable (codes "__vmctx") (located_or_none (label_located m d.function context_label)) pointer
+      context-moves = variable-moves DW_TAG_variable (codes "__vmctx") (locations_or_none (label_locations m d.function context_label)) pointer
 
       label-more : (label : ℕ) (more others : List Draft) → AllMove more others → AllMove (cons_option (label_entry unit pointer m d label) more) (cons_option (label_entry unit (renumbered at pointer) m d label) others)
       label-more label more others h = go (label == context_label)
@@ -101,8 +101,8 @@ module _ (at : ℕ → ℕ → Option (ℕ × ℕ)) where
     modules-move translated pointers [] = refl
     modules-move translated [] (m ∷ ms) = refl
     modules-move translated (pointer ∷ pointers) (m ∷ ms) =
-        both-move (flat_map (function_entries unit pointer m) (listed_functions translated m)) (flat_map (function_entries unit (renumbered at pointer) m) (listed_functions translated m)) (modules_entries translated unit pointers ms) (modules_entries translated unit (map (renumbered at) pointers) ms)
-        (lists-move (function_entries unit pointer m) (function_entries unit (renumbered at pointer) m) (λ d. function-moves pointer m d) (listed_functions translated m))
+        both-move (flat_map (function_entries unit pointer m) (simulated_functions translated m)) (flat_map (function_entries unit (renumbered at pointer) m) (simulated_functions translated m)) (modules_entries translated unit pointers ms) (modules_entries translated unit (map (renumbered at) pointers) ms)
+        (lists-move (function_entries unit pointer m) (function_entries unit (renumbered at pointer) m) (λ d. function-moves pointer m d) (simulated_functions translated m))
         (modules-move translated pointers ms)
 
   -- The unit has the types of pointers to contexts put to places, where the types of numbers stay.

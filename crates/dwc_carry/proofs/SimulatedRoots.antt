@@ -6,13 +6,13 @@ use Rattle.std.proofs.lemmas.List.Elements.{All-nil, All-cons}
 use Rattle.dwc_carried.specs.SimulatedUnit.{simulated_root}
 use Rattle.dwc_dwarf.specs.Trees.{Interval}
 use Rattle.dwc_carried.specs.UnitPaths.{path_directory, path_name}
-use Rattle.dwc_write.specs.declared.lists.RangeList.{RangeList}
-use Rattle.dwc_write.specs.GivenLines.{GivenLines}
-use Rattle.dwc_write.specs.GivenUnits.{Addition}
-use Rattle.dwc_write.specs.RangeLists.{interval_of}
-use Rattle.dwc_write.specs.UsedTexts.{texts_of_attributes}
-use Rattle.dwc_write.proofs.AddedInOrderUnits.{numbered-leads}
-use Rattle.dwc_clone.specs.KnownTexts.{IsNumbered}
+use Rattle.dwc_unit.specs.declared.lists.RangeList.{RangeList}
+use Rattle.dwc_unit.specs.GivenLines.{GivenLines}
+use Rattle.dwc_unit.specs.GivenUnits.{Addition}
+use Rattle.dwc_unit.specs.RangeLists.{interval_of}
+use Rattle.dwc_unit.specs.UsedTexts.{texts_of_attributes}
+use Rattle.dwc_unit.proofs.AddedInOrderUnits.{numbered-leads}
+use Rattle.dwc_source.specs.KnownTexts.{IsNumbered}
 use Rattle.dwc_carry.specs.declared.simulated_root.RootTexts.{RootTexts}
 use Rattle.dwc_carry.specs.SimulatedAdditions.{root_given, root_names, root_texts_of, simulated_root_addition}
 use Rattle.dwc_carry.specs.SimulatedDrafts.{IsSimulated}
@@ -53,6 +53,6 @@ module _ (texts : List (List ℕ)) (path : List ℕ) (t : RootTexts) (known : Al
     dense = refl;
   }
     where
-      places : (place : ℕ) → place < 1 → Rattle.dwc_write.specs.GivenUnits.place_of (Rattle.std.specs.Prelude.get_or (0 ∷ []) place 0) (Some 0 ∷ []) ≡ Some place
+      places : (place : ℕ) → place < 1 → Rattle.dwc_unit.specs.GivenUnits.place_of (Rattle.std.specs.Prelude.get_or (0 ∷ []) place 0) (Some 0 ∷ []) ≡ Some place
       places zero within = refl
       places (suc place) within = absurd (omega (arith, within))

@@ -6,20 +6,20 @@ use Rattle.std.proofs.lemmas.List.{append-nil, append_assoc}
 use Rattle.dwc_rules.specs.Carried.{Module}
 use Rattle.dwc_carried.specs.DefinedFunctions.{DefinedFunction}
 use Rattle.dwc_rules.specs.Drafts.{Draft}
-use Rattle.dwc_carried.specs.ListedFunctions.{listed_functions}
+use Rattle.dwc_carried.specs.SimulatedFunctions.{simulated_functions}
 use Rattle.dwc_native.specs.Parts.{context_label}
-use Rattle.dwc_carried.specs.SimulatedUnit.{base_types, context_entry, first_source, function_entries, function_entry, function_index, function_name, label_entry, label_located, local_entry, local_name, local_tag, modules_entries, simulated_root, simulated_unit, type_place, whole_intervals}
+use Rattle.dwc_carried.specs.SimulatedUnit.{base_types, context_entry, first_source, function_entries, function_entry, function_index, function_name, label_entry, label_locations, local_entry, local_name, local_tag, modules_entries, simulated_root, simulated_unit, type_place, whole_intervals}
 use Rattle.dwc_dwarf.specs.Trees.{TreeValue}
-use Rattle.dwc_write.specs.declared.attributes.DebugInfoRef.{DebugInfoRef}
-use Rattle.dwc_write.specs.LocationLists.{LocationList}
-use Rattle.dwc_write.specs.declared.strings.StringId.{StringId}
-use Rattle.dwc_write.specs.AddedInOrder.{with_entry}
-use Rattle.dwc_write.specs.GivenUnits.{GivenUnit}
-use Rattle.dwc_write.specs.Lists.{location_of}
+use Rattle.dwc_unit.specs.declared.attributes.DebugInfoRef.{DebugInfoRef}
+use Rattle.dwc_unit.specs.LocationLists.{LocationList}
+use Rattle.dwc_unit.specs.declared.strings.StringId.{StringId}
+use Rattle.dwc_unit.specs.AddedInOrder.{with_entry}
+use Rattle.dwc_unit.specs.GivenUnits.{GivenUnit}
+use Rattle.dwc_unit.specs.Lists.{location_of}
 use Rattle.dwc_clone.specs.ContextPlaces.{HasContext}
-use Rattle.dwc_clone.specs.KnownTexts.{IsNumbered}
-use Rattle.dwc_clone.specs.MadeValues.{Grows}
-use Rattle.dwc_carry.specs.OwnUnits.{reference_meant}
+use Rattle.dwc_source.specs.KnownTexts.{IsNumbered}
+use Rattle.dwc_source.specs.MadeValues.{Grows}
+use Rattle.dwc_carry.specs.SyntheticUnits.{reference_meant}
 use Rattle.dwc_carry.specs.SimulatedAdditions.{local_addition, subprogram_addition}
 use Rattle.dwc_carry.specs.SimulatedDrafts.{HasFunction, HasFunctions, HasModules, HasVariables, IsSimulated}
 use Rattle.dwc_carry.proofs.SimulatedLaws.{context-simulated, function-simulated, local-simulated}
@@ -49,7 +49,7 @@ module _ (number : ℕ) (pointer : TreeValue) (m : Module) (d : DefinedFunction)
 
   -- that of the context
   pub variables-context : (old new : List (List ℕ)) (label : ℕ) (left : List ℕ) (place : ℕ) (type : DebugInfoRef) (u v : GivenUnit) → Grows old new → reference_meant type ≡ pointer → HasVariables number pointer m d old before (label ∷ left) place u → (label == context_label) ≡ true
-      → HasContext (label_located m d.function context_label) place type new u v → HasVariables number pointer m d new before left place v
+      → HasContext (label_locations m d.function context_label) place type new u v → HasVariables number pointer m d new before left place v
   variables-context old new label left place type u v grows meant has context added =
       one-more old new label left place u v (context_entry pointer m d) has
       (ap (λ (b : Bool). cond {A = Option Draft} b (Some (context_entry pointer m d)) (option_map (local_entry number m d label) (type_place m d label))) context)
@@ -57,7 +57,7 @@ module _ (number : ℕ) (pointer : TreeValue) (m : Module) (d : DefinedFunction)
 
   -- that of a local of one of the four types
   pub variables-local : (old new : List (List ℕ)) (label : ℕ) (left : List ℕ) (place type : ℕ) (u v : GivenUnit) (name : StringId) (list : LocationList) → Grows old new → HasVariables number pointer m d old before (label ∷ left) place u → (label == context_label) ≡ false → type_place m d label ≡ Some type
-      → IsNumbered new (local_name m d label) name → label_located m d.function label ≡ Ok (map location_of list.locations.items) → v ≡ with_entry (local_addition place (local_tag m d label) name type list) u → HasVariables number pointer m d new before left place v
+      → IsNumbered new (local_name m d label) name → label_locations m d.function label ≡ Ok (map location_of list.locations.items) → v ≡ with_entry (local_addition place (local_tag m d label) name type list) u → HasVariables number pointer m d new before left place v
   variables-local old new label left place type u v name list grows has other typed known located is =
       one-more old new label left place u v (local_entry number m d label type) has
       (ap (λ (b : Bool). cond {A = Option Draft} b (Some (context_entry pointer m d)) (option_map (local_entry number m d label) (type_place m d label))) other ∙ ap (option_map (local_entry number m d label)) typed)
@@ -99,8 +99,8 @@ unfolding simulated_unit
 modules-begun translated number pointers texts path ms u made = record { ds = simulated_root path (flat_map (whole_intervals translated) ms) ∷ base_types; made = made; all = refl }
 
 module _ (translated : ℕ → Bool) (number : ℕ) (pointer : TreeValue) (pointers : List TreeValue) (m : Module) (ms : List Module) (whole : List Draft) (texts : List (List ℕ)) (u : GivenUnit) where
-  -- A module is begun: all its listed functions are left.
-  pub functions-begun : HasModules translated number (pointer ∷ pointers) texts whole (m ∷ ms) u → HasFunctions number pointer m texts (modules_entries translated number pointers ms) whole (listed_functions translated m) u
+  -- A module is begun: all its simulated functions are left.
+  pub functions-begun : HasModules translated number (pointer ∷ pointers) texts whole (m ∷ ms) u → HasFunctions number pointer m texts (modules_entries translated number pointers ms) whole (simulated_functions translated m) u
   functions-begun has = record { ds = has.ds; made = has.made; all = has.all }
 
   -- No function of it is left.

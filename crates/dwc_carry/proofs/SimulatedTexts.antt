@@ -4,11 +4,11 @@ use Rattle.std.specs.List.{AllZip, suffix_len}
 use Rattle.std.proofs.lemmas.List.{get_or_append_left, length-append}
 use Rattle.std.proofs.lemmas.List.Elements.{All-cons, All-nil, All-take}
 use Rattle.dwc_carried.specs.UnitPaths.{before_name, cut_path, directory_before, is_slash, or_root, path_directory}
-use Rattle.dwc_write.specs.declared.strings.StringId.{StringId}
-use Rattle.dwc_write.specs.TextTables.{IsText}
-use Rattle.dwc_write.specs.UsedTexts.{text_numbered}
-use Rattle.dwc_clone.specs.KnownTexts.{IsNumbered}
-use Rattle.dwc_clone.specs.MadeValues.{Grows}
+use Rattle.dwc_unit.specs.declared.strings.StringId.{StringId}
+use Rattle.dwc_unit.specs.TextTables.{IsText}
+use Rattle.dwc_unit.specs.UsedTexts.{text_numbered}
+use Rattle.dwc_source.specs.KnownTexts.{IsNumbered}
+use Rattle.dwc_source.specs.MadeValues.{Grows}
 
 -- ---- numbers
 

@@ -9,15 +9,15 @@ use Rattle.std.proofs.lemmas.List.Elements.{All-nil, All-cons}
 use Rattle.std.proofs.lemmas.Option.{slice_get-get_or}
 use Rattle.dwc_base.specs.declared.records.Endian.{Endian}
 use Rattle.dwc_base.specs.declared.records.MapFault.{MapFault}
-use Rattle.dwc_base.specs.declared.wasm.ModuleTranslation.{ModuleTranslation}
+use Rattle.dwc_base.specs.declared.translation.ModuleTranslation.{ModuleTranslation}
 use Rattle.dwc_native.specs.Functions.{Function, functions_of}
 use Rattle.dwc_rules.specs.Carried.{Module, Compilation}
 use Rattle.dwc_dwarf.specs.ReadUnits.{units}
 use Rattle.dwc_carried.specs.Forests.{module_units, wanted_units, first_refusal, function_refusals, is_big, module_refusals, trees_made}
 use Rattle.dwc_rules.specs.ModuleDrafts.{module_drafts}
 use Rattle.dwc_rules.specs.DraftForests.{settled_unit, trees_from}
-use Rattle.dwc_carried.specs.LastUnit.{last_drafts, last_refusals, last_wanted, listed_drafts}
-use Rattle.dwc_carried.specs.ListedFunctions.{is_begun}
+use Rattle.dwc_carried.specs.SimulatedUnitRules.{simulated_drafts, simulated_unit_refusals, simulated_wanted, simulated_drafts_at}
+use Rattle.dwc_carried.specs.SimulatedFunctions.{is_begun}
 use Rattle.dwc_carried.specs.SimulatedUnit.{context_pointers, unit_count}
 use Rattle.dwc_rules.specs.Refusals.{Refusal}
 use Rattle.dwc_base.specs.Listing.{first_of}
@@ -26,32 +26,32 @@ use Rattle.dwc_output.specs.TreeReading.{entry_or_nothing}
 use Rattle.dwc_dwarf.specs.Trees.{Tree, TreeValue}
 use Rattle.dwc_dwarf.specs.TreeLaws.{HasAllTargets}
 use Rattle.dwc_carried.proofs.SimulatedUnitLaws.{last-number}
-use Rattle.dwc_clif.specs.AddressMaps.{address_map_view}
-use Rattle.dwc_clif.specs.Registers.{Registers}
+use Rattle.dwc_compiled.specs.AddressMaps.{address_map_view}
+use Rattle.dwc_isa.specs.Registers.{Registers}
 use Rattle.dwc_addr.specs.declared.error.AddrError.{AddrError}
 use Rattle.dwc_addr.specs.declared.error.AddrError.TheVariants as addr
 use Rattle.dwc_addr.specs.Numbers.{Compiled, function_count, first_number}
 use Rattle.dwc_addr.specs.Compilations.{CompilationValue, functions_at, code_offset_at, IsCounted}
 use Rattle.dwc_addr.specs.Transforms.{first_bad_map, Transforms}
-use Rattle.dwc_write.specs.declared.attributes.DebugInfoRef.{DebugInfoRef}
-use Rattle.dwc_write.specs.GivenUnits.{GivenUnit}
+use Rattle.dwc_unit.specs.declared.attributes.DebugInfoRef.{DebugInfoRef}
+use Rattle.dwc_unit.specs.GivenUnits.{GivenUnit}
 use Rattle.dwc_clone.specs.BegunNumbers.{is_noted}
 use Rattle.dwc_carry.specs.declared.error.DebugError.{DebugError}
 use Rattle.dwc_image.specs.CarriedLines.{AreKept}
 use Rattle.dwc_carry.specs.Refusals as refusals
 use Rattle.dwc_carry.specs.Refusals.{InputRefusal, IsCause, Told, bad_address_map, in_reading, memory, of_maps, told, Refuses, RefusesReading}
 use Rattle.dwc_carry.specs.MadeUnits.{LeadsTo, AreMadeOf}
-use Rattle.dwc_write.specs.Renumbered.{place_at, renumbered}
+use Rattle.dwc_unit.specs.Renumbered.{place_at, renumbered}
 use Rattle.dwc_carry.proofs.MadeLaws.{leads-behind, leads-front, leads-there, made-both, made-grown, made-length}
 use Rattle.dwc_carry.specs.declared.carry_modules.CarriedModules.{CarriedModules}
 use Rattle.dwc_carry.specs.CarriedModules.{AddsModules}
-use Rattle.dwc_carry.specs.OwnUnits.{reference_meant}
+use Rattle.dwc_carry.specs.SyntheticUnits.{reference_meant}
 use Rattle.dwc_carry.specs.SimulatedDrafts.{ContextsStay}
-use Rattle.dwc_carry.specs.LastUnits.{AddsLast, AreTranslated, ReferToContexts, referred}
+use Rattle.dwc_carry.specs.SimulatedUnits.{AddsSimulatedUnit, AreTranslated, ReferToContexts, referred}
 use Rattle.dwc_carry.specs.Inputs.{names_of, functions_from, modules_of, input_of, bad_map_from, bad_map, maps_refusal, refused_before_path}
 use Rattle.dwc_carry.specs.Transformed.{have_long, lengths_checked, IsTransformed}
 use Rattle.dwc_carry.proofs.CompiledLaws.{all_functions, counted-length, functions-are, functions-length}
-use Rattle.dwc_carry.proofs.LastTargets.{all-targets}
+use Rattle.dwc_carry.proofs.OutputTargets.{all-targets}
 use Rattle.dwc_carry.proofs.RefusalLaws.{first-behind, no-first, reading-more, refuses-more, unmapped}
 use Rattle.dwc_carry.proofs.LengthLaws.{all-short, some-long, checked-long, checked-short}
 use Rattle.dwc_carry.proofs.CompositionLaws.{forest-is, made-texts, made-trees, trees-of-all}
@@ -184,19 +184,19 @@ late-memory o e = go (told e)
     go memory h none = refl
 
 -- There is a reference for each module.
-refers-length : (own : ℕ) (ms : List Module) (refs : List DebugInfoRef) → ReferToContexts own ms refs → length refs ≡ length ms
-refers-length own [] [] h = refl
-refers-length own [] (r ∷ refs) h = absurd h
-refers-length own (m ∷ ms) [] h = absurd h
-refers-length own (m ∷ ms) (r ∷ refs) h = ap suc (refers-length (own + unit_count m) ms refs h.1)
+refers-length : (synthetic : ℕ) (ms : List Module) (refs : List DebugInfoRef) → ReferToContexts synthetic ms refs → length refs ≡ length ms
+refers-length synthetic [] [] h = refl
+refers-length synthetic [] (r ∷ refs) h = absurd h
+refers-length synthetic (m ∷ ms) [] h = absurd h
+refers-length synthetic (m ∷ ms) (r ∷ refs) h = ap suc (refers-length (synthetic + unit_count m) ms refs h.1)
 
 -- References to contexts that stay where they are say the types of pointers to these.
-contexts-referred : (at : ℕ → ℕ → Option (ℕ × ℕ)) (own : ℕ) (ms : List Module) (refs : List DebugInfoRef) → ReferToContexts own ms refs → ContextsStay at own ms → referred at refs ≡ context_pointers own ms
-contexts-referred at own [] [] h stay = refl
-contexts-referred at own [] (r ∷ refs) h stay = absurd h
-contexts-referred at own (m ∷ ms) [] h stay = absurd h
-contexts-referred at own (m ∷ ms) (r ∷ refs) h stay =
-    ap₂ (λ (v : TreeValue) (vs : List TreeValue). v ∷ vs) (ap (λ (x : DebugInfoRef). renumbered at (reference_meant x)) h.0 ∙ ap entry_or_nothing stay.0) (contexts-referred at (own + unit_count m) ms refs h.1 stay.1)
+contexts-referred : (at : ℕ → ℕ → Option (ℕ × ℕ)) (synthetic : ℕ) (ms : List Module) (refs : List DebugInfoRef) → ReferToContexts synthetic ms refs → ContextsStay at synthetic ms → referred at refs ≡ context_pointers synthetic ms
+contexts-referred at synthetic [] [] h stay = refl
+contexts-referred at synthetic [] (r ∷ refs) h stay = absurd h
+contexts-referred at synthetic (m ∷ ms) [] h stay = absurd h
+contexts-referred at synthetic (m ∷ ms) (r ∷ refs) h stay =
+    ap₂ (λ (v : TreeValue) (vs : List TreeValue). v ∷ vs) (ap (λ (x : DebugInfoRef). renumbered at (reference_meant x)) h.0 ∙ ap entry_or_nothing stay.0) (contexts-referred at (synthetic + unit_count m) ms refs h.1 stay.1)
 
 -- the noted numbers are those of the functions that are begun
 same-numbers : (ms : List Module) (translated : BTreeSet ℕ) → AreTranslated ms translated → is_noted translated ≡ is_begun ms
@@ -214,13 +214,13 @@ module _ (registers : Registers) (c : CompilationValue) (counted : IsCounted c.t
   abbrev refusals_in : List Module → Option InputRefusal
   refusals_in ms = option_map in_reading (first_of (flat_map module_refusals ms))
 
-  -- what is refused of the last unit
-  abbrev last_refused : List Refusal
-  last_refused = last_refusals (is_begun modules) c.next_id modules
+  -- what is refused of the simulated unit
+  abbrev simulated_refused : List Refusal
+  simulated_refused = simulated_unit_refusals (is_begun modules) c.next_id modules
 
   -- what is refused of the input behind its maps, and of it whole
   abbrev reading_refusal : Option InputRefusal
-  reading_refusal = option_map in_reading (first_of (flat_map (λ m. function_refusals m.functions) modules ++ (flat_map module_refusals modules ++ (last_refused ++ []))))
+  reading_refusal = option_map in_reading (first_of (flat_map (λ m. function_refusals m.functions) modules ++ (flat_map module_refusals modules ++ (simulated_refused ++ []))))
 
   abbrev input_refusal : Option InputRefusal
   input_refusal = option_or (maps_refusal c) reading_refusal
@@ -242,28 +242,28 @@ module _ (registers : Registers) (c : CompilationValue) (counted : IsCounted c.t
   functions-refused = ap (flat_map function_refusals) (sym (functions-are registers (names_of c) c.translations c.functions c.memory_offsets counted)) ∙ each-refused modules
 
   -- what is refused behind the lengths of functions is refused of the input, whose maps are good and whose functions short
-  behind-lengths : maps_refusal c ≡ None → have_long functions ≡ false → option_map in_reading (first_of (flat_map module_refusals modules ++ (last_refused ++ []))) ≡ input_refusal
+  behind-lengths : maps_refusal c ≡ None → have_long functions ≡ false → option_map in_reading (first_of (flat_map module_refusals modules ++ (simulated_refused ++ []))) ≡ input_refusal
   behind-lengths good short =
-      ap (λ (longs : List Refusal). option_map in_reading (first_of (longs ++ (flat_map module_refusals modules ++ (last_refused ++ []))))) (sym (sym functions-refused ∙ all-short functions short))
+      ap (λ (longs : List Refusal). option_map in_reading (first_of (longs ++ (flat_map module_refusals modules ++ (simulated_refused ++ []))))) (sym (sym functions-refused ∙ all-short functions short))
       ∙ ap (λ o. option_or o reading_refusal) (sym good)
 
   -- so is what is refused of the modules
   pub input-refused : (e : DebugError) → maps_refusal c ≡ None → have_long functions ≡ false → Refuses (refusals_in modules) e → Refuses input_refusal e
   input-refused e good short h =
       subst (λ o. Refuses o e) (behind-lengths good short)
-      (reading-more (first_of (flat_map module_refusals modules)) (first_of (flat_map module_refusals modules ++ (last_refused ++ []))) e (λ r is. first-behind (flat_map module_refusals modules) (last_refused ++ []) r is) h)
+      (reading-more (first_of (flat_map module_refusals modules)) (first_of (flat_map module_refusals modules ++ (simulated_refused ++ []))) e (λ r is. first-behind (flat_map module_refusals modules) (simulated_refused ++ []) r is) h)
 
-  -- where nothing is refused of the modules, what is refused behind them is the last unit's
-  behind-modules : refusals_in modules ≡ None → first_of (flat_map module_refusals modules ++ (last_refused ++ [])) ≡ first_of last_refused
+  -- where nothing is refused of the modules, what is refused behind them is the simulated unit's
+  behind-modules : refusals_in modules ≡ None → first_of (flat_map module_refusals modules ++ (simulated_refused ++ [])) ≡ first_of simulated_refused
   behind-modules none =
-      ap (λ (rs : List Refusal). first_of (rs ++ (last_refused ++ []))) (no-first (flat_map module_refusals modules) (unmapped in_reading (first_of (flat_map module_refusals modules)) none))
-      ∙ ap (λ (rs : List Refusal). first_of rs) (append-nil last_refused)
+      ap (λ (rs : List Refusal). first_of (rs ++ (simulated_refused ++ []))) (no-first (flat_map module_refusals modules) (unmapped in_reading (first_of (flat_map module_refusals modules)) none))
+      ∙ ap (λ (rs : List Refusal). first_of rs) (append-nil simulated_refused)
 
   pub last-refused : (e : DebugError) (translated : BTreeSet ℕ) → maps_refusal c ≡ None → have_long functions ≡ false → refusals_in modules ≡ None → AreTranslated modules translated
-      → RefusesReading (first_of (last_refusals (is_noted translated) c.next_id modules)) e → Refuses input_refusal e
+      → RefusesReading (first_of (simulated_unit_refusals (is_noted translated) c.next_id modules)) e → Refuses input_refusal e
   last-refused e translated good short none noted h =
       subst (λ o. Refuses o e) (ap (option_map in_reading) (sym (behind-modules none)) ∙ behind-lengths good short)
-      (subst (λ (begun : ℕ → Bool). RefusesReading (first_of (last_refusals begun c.next_id modules)) e) (same-numbers modules translated noted) h)
+      (subst (λ (begun : ℕ → Bool). RefusesReading (first_of (simulated_unit_refusals begun c.next_id modules)) e) (same-numbers modules translated noted) h)
 
   -- a bad map refuses the input
   pub maps-refused : (e : DebugError) → Refuses (maps_refusal c) e → Refuses input_refusal e
@@ -273,13 +273,13 @@ module _ (registers : Registers) (c : CompilationValue) (counted : IsCounted c.t
   pub lengths-refused : (e : DebugError) → maps_refusal c ≡ None → Err e ≡ lengths_checked functions → Refuses input_refusal e
   lengths-refused e good h =
       let long = checked-long functions e h in
-      let behind : List Refusal = flat_map module_refusals modules ++ (last_refused ++ []) in
+      let behind : List Refusal = flat_map module_refusals modules ++ (simulated_refused ++ []) in
       subst (Refuses input_refusal) (sym long.1)
       (ap (λ o. option_or o reading_refusal) good
       ∙ ap (λ (longs : List Refusal). option_map in_reading (first_of (longs ++ behind))) (sym functions-refused)
       ∙ ap (option_map in_reading) (some-long functions behind long.0))
 
-  -- ---- what is refused before the path of the last unit is made
+  -- ---- what is refused before the path of the simulated unit is made
 
   -- what is refused of functions and modules
   abbrev early_reading : Option InputRefusal
@@ -321,7 +321,7 @@ module _ (registers : Registers) (c : CompilationValue) (counted : IsCounted c.t
     abbrev trees_of_modules : List Tree
     trees_of_modules = trees_from 0 (map (module_drafts (is_big order)) modules)
 
-    -- So many units are made for the modules as the last one's number says.
+    -- So many units are made for the modules as the simulated one's number says.
     units-numbered : length vs ≡ sum_by unit_count modules
     units-numbered =
         let leads : LeadsTo (place_at vs) 0 k.made = subst (λ us. LeadsTo (place_at vs) 0 us) k.added (leads-there vs) in
@@ -329,12 +329,12 @@ module _ (registers : Registers) (c : CompilationValue) (counted : IsCounted c.t
 
     -- The input is accepted, and the units that are added are those of it.
     pub input-transformed : (texts : List (List ℕ)) (us : List GivenUnit) → maps_refusal c ≡ None → have_long functions ≡ false → refusals_in modules ≡ None
-        → (option_map in_reading (first_of (last_refusals (is_noted carried.translated) c.next_id modules)) ≡ None) × AddsLast (is_noted carried.translated) size c.next_id modules carried.vmctx_ptrs.items vs us between texts
+        → (option_map in_reading (first_of (simulated_unit_refusals (is_noted carried.translated) c.next_id modules)) ≡ None) × AddsSimulatedUnit (is_noted carried.translated) size c.next_id modules carried.vmctx_ptrs.items vs us between texts
         → (input_refusal ≡ None) × IsTransformed size (input_of order size registers None c) texts us
     input-transformed texts us good short none given =
         let same = same-numbers modules carried.translated k.translated in
-        let last = subst (λ (begun : ℕ → Bool). option_map in_reading (first_of (last_refusals begun c.next_id modules)) ≡ None) same given.0 in
-        let l = subst (λ (begun : ℕ → Bool). AddsLast begun size c.next_id modules carried.vmctx_ptrs.items vs us between texts) same given.1 in
+        let last = subst (λ (begun : ℕ → Bool). option_map in_reading (first_of (simulated_unit_refusals begun c.next_id modules)) ≡ None) same given.0 in
+        let l = subst (λ (begun : ℕ → Bool). AddsSimulatedUnit begun size c.next_id modules carried.vmctx_ptrs.items vs us between texts) same given.1 in
         let accepted : input_refusal ≡ None = sym (behind-lengths good short) ∙ ap (option_map in_reading) (behind-modules none) ∙ last in
         let all : us ≡ k.made ++ l.made = l.added ∙ ap (λ ws. ws ++ l.made) k.added in
         let counted : length vs ≡ 0 + length k.made = omega (arith, ap length k.added) in
@@ -342,11 +342,11 @@ module _ (registers : Registers) (c : CompilationValue) (counted : IsCounted c.t
         let front : LeadsTo (place_at us) 0 k.made = leads-front (place_at us) 0 k.made l.made leads in
         let behind : LeadsTo (place_at us) (length vs) l.made = leads-behind (place_at us) 0 (length vs) k.made l.made counted leads in
         let ends : Option (List Draft) → List Tree = λ drafts. map (settled_unit (λ goal. None)) (option_to_list drafts) in
-        let drafts : listed_drafts (is_begun modules) c.next_id (length vs) (referred (place_at us) carried.vmctx_ptrs.items) modules ≡ last_drafts (is_begun modules) c.next_id modules =
-        ap₂ (λ (n : ℕ) (pointers : List TreeValue). listed_drafts (is_begun modules) c.next_id n pointers modules) units-numbered (contexts-referred (place_at us) 0 modules carried.vmctx_ptrs.items k.refers (k.contexts (place_at us) front)) in
+        let drafts : simulated_drafts_at (is_begun modules) c.next_id (length vs) (referred (place_at us) carried.vmctx_ptrs.items) modules ≡ simulated_drafts (is_begun modules) c.next_id modules =
+        ap₂ (λ (n : ℕ) (pointers : List TreeValue). simulated_drafts_at (is_begun modules) c.next_id n pointers modules) units-numbered (contexts-referred (place_at us) 0 modules carried.vmctx_ptrs.items k.refers (k.contexts (place_at us) front)) in
         let one = made-grown (place_at us) size between texts 0 (module_units input) trees_of_modules k.made l.grows (k.each (place_at us) front) in
-        let two = subst (λ ds. AreMadeOf (place_at us) size texts (length vs) (last_wanted (is_begun modules) c.next_id modules) (ends ds) l.made) drafts (l.each (place_at us) behind) in
-        let both = made-both (place_at us) size texts 0 (length vs) (module_units input) (last_wanted (is_begun modules) c.next_id modules) trees_of_modules (ends (last_drafts (is_begun modules) c.next_id modules)) k.made l.made counted one two in
+        let two = subst (λ ds. AreMadeOf (place_at us) size texts (length vs) (simulated_wanted (is_begun modules) c.next_id modules) (ends ds) l.made) drafts (l.each (place_at us) behind) in
+        let both = made-both (place_at us) size texts 0 (length vs) (module_units input) (simulated_wanted (is_begun modules) c.next_id modules) trees_of_modules (ends (simulated_drafts (is_begun modules) c.next_id modules)) k.made l.made counted one two in
         let made : AreMadeOf (place_at us) size texts 0 (wanted_units input) (trees_made input) us =
         subst (AreMadeOf (place_at us) size texts 0 (wanted_units input) (trees_made input)) (sym all)
         (subst (λ ts. AreMadeOf (place_at us) size texts 0 (wanted_units input) ts (k.made ++ l.made)) (sym (trees-of-all input)) both) in (

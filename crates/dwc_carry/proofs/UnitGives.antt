@@ -9,24 +9,24 @@ use Rattle.dwc_rules.specs.CarriedDrafts.{source_of}
 use Rattle.dwc_rules.specs.CarriedUnits.{kept_of}
 use Rattle.dwc_rules.specs.Refusals.{lines_refusal}
 use Rattle.dwc_base.specs.Listing.{first_of}
-use Rattle.dwc_clif.specs.Registers.{Registers}
+use Rattle.dwc_isa.specs.Registers.{Registers}
 use Rattle.dwc_kept.specs.declared.kept_units.KeptModule.{KeptModule}
 use Rattle.dwc_kept.specs.ReadUnits.{unit_read}
-use Rattle.dwc_clone.specs.declared.error.CloneError.{CloneError}
-use Rattle.dwc_clone.specs.declared.source.CloneSource.{CloneSource}
-use Rattle.dwc_clone.specs.Sources.{AreEmitted, IsSource}
-use Rattle.dwc_clone.specs.CompiledModules.{told_by, HasFrames}
+use Rattle.dwc_source.specs.declared.error.CloneError.{CloneError}
+use Rattle.dwc_source.specs.declared.source.CloneSource.{CloneSource}
+use Rattle.dwc_source.specs.Sources.{AreEmitted, IsSource}
+use Rattle.dwc_source.specs.CompiledModules.{told_by, HasFrames}
 use Rattle.dwc_clone.specs.ClonedUnits.{picked, placed_in, AreClonable, GivesCloned}
-use Rattle.dwc_clone.specs.Lineages.{AreWalked}
-use Rattle.dwc_write.specs.declared.units.Dwarf.{Dwarf}
-use Rattle.dwc_write.specs.declared.units.UnitId.{UnitId}
-use Rattle.dwc_write.specs.GivenUnits.{GivenUnit}
+use Rattle.dwc_extents.specs.Lineages.{AreWalked}
+use Rattle.dwc_unit.specs.declared.units.Dwarf.{Dwarf}
+use Rattle.dwc_unit.specs.declared.units.UnitId.{UnitId}
+use Rattle.dwc_unit.specs.GivenUnits.{GivenUnit}
 use Rattle.dwc_carry.specs.declared.last_lines.LastLines.{LastLines}
 use Rattle.dwc_carry.specs.Refusals.{in_reading, of_cloning, RefusesReading}
 use Rattle.dwc_carry.specs.UnitPrograms.{CarriesNamed}
 use Rattle.dwc_carry.specs.LastLines.{IsLast, last_after}
 use Rattle.dwc_carry.specs.CarriedUnits.{IsUnitOf, refusals_of, AddsUnit, CarriesUnit}
-use Rattle.dwc_carry.specs.OwnUnits.{ReferToOwn}
+use Rattle.dwc_carry.specs.SyntheticUnits.{ReferToSynthetic}
 use Rattle.dwc_carry.proofs.LastLaws.{last-carried}
 use Rattle.dwc_carry.proofs.UnitSources.{read_of, unit-in, unit-is, no-fault, clonable, are-emitted, source-is}
 use Rattle.dwc_carry.proofs.UnitMade.{entries-are, files-known, clone-refused, made-of, accepted}
@@ -43,7 +43,7 @@ AnswersCloned registers k kept old new begun result =
 module _ (registers : Registers) (k : CloneSource) (compile : Bool) (table : Option ℕ) (c : Module) (m : KeptModule) (first number : ℕ) (kept : List ℕ)
     (of : IsUnitOf c k.transform.now (told_by registers k.module) m first number k.places.now kept (read_of k compile table)) (frames : HasFrames k.module k.transform.now) (size : ℕ) (old new : List (List ℕ)) (begun : GivenUnit)
     (carries : CarriesNamed k.transform.now k.unit.now.sections k.unit.now.header size table k.files begun.lines)
-    (none : option_map in_reading (lines_refusal k.unit.now.sections k.unit.now.header table) ≡ None) (refers : ReferToOwn first c.told.memory k.vmctx_ptr k.wasm_ptr) where
+    (none : option_map in_reading (lines_refusal k.unit.now.sections k.unit.now.header table) ≡ None) (refers : ReferToSynthetic first c.told.memory k.vmctx_ptr k.wasm_ptr) where
   -- its kept entries are walked with their parents
   entries-walked : AreWalked (source_of (kept_of c) (unit_read c.sections k.unit.now.header)).entries (placed_in k.unit.now.header.offset (picked kept (entries k.unit.now.sections k.unit.now.header).items))
   unfolding source_of

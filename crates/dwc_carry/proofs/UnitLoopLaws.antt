@@ -20,18 +20,18 @@ use Rattle.dwc_kept.specs.KeptUnits.{is_in_unit}
 use Rattle.dwc_kept.specs.ReadUnits.{unit_read, is_carried_read}
 use Rattle.dwc_base.proofs.InLists.{IsIn, at-in, in-contains}
 use Rattle.dwc_kept.proofs.KeptModuleLaws.{carried-read}
-use Rattle.dwc_clone.specs.declared.places.EmittedEntry.{EmittedEntry}
-use Rattle.dwc_clone.specs.OutputPlaces.{place_of}
-use Rattle.dwc_clone.specs.MadeValues.{Grows}
-use Rattle.dwc_write.specs.declared.units.Dwarf.{Dwarf}
-use Rattle.dwc_write.specs.GivenUnits.{Addition, GivenUnit}
-use Rattle.dwc_write.specs.AddedInOrder.{tree_meant}
-use Rattle.dwc_write.specs.UsedTexts.{texts_of_attributes}
-use Rattle.dwc_write.proofs.AddedInOrderValues.{tree-meant-more}
+use Rattle.dwc_source.specs.declared.places.EmittedEntry.{EmittedEntry}
+use Rattle.dwc_source.specs.OutputPlaces.{place_of}
+use Rattle.dwc_source.specs.MadeValues.{Grows}
+use Rattle.dwc_unit.specs.declared.units.Dwarf.{Dwarf}
+use Rattle.dwc_unit.specs.GivenUnits.{Addition, GivenUnit}
+use Rattle.dwc_unit.specs.AddedInOrder.{tree_meant}
+use Rattle.dwc_unit.specs.UsedTexts.{texts_of_attributes}
+use Rattle.dwc_unit.proofs.AddedInOrderValues.{tree-meant-more}
 use Rattle.dwc_carry.specs.declared.error.DebugError.{DebugError}
 use Rattle.dwc_carry.specs.Refusals.{in_reading, RefusesReading}
-use Rattle.dwc_write.specs.declared.attributes.DebugInfoRef.{DebugInfoRef}
-use Rattle.dwc_carry.specs.OwnUnits.{ReferToOwn}
+use Rattle.dwc_unit.specs.declared.attributes.DebugInfoRef.{DebugInfoRef}
+use Rattle.dwc_carry.specs.SyntheticUnits.{ReferToSynthetic}
 use Rattle.dwc_carry.specs.MadeUnits.{LeadsTo, AreMadeOf}
 use Rattle.dwc_carry.specs.ModulePlaces.{carried_offsets, emitted, numbered_lists}
 use Rattle.dwc_carry.specs.CarriedUnits.{IsOfModule, IsUnitOf, wanted_of, refusals_of, CarriesUnit, CarryUnits, AddsUnit, AddsUnits}
@@ -56,7 +56,7 @@ carries-more size big_endian c first places before after number u g grows h = re
   leads = h.leads;
   goals = h.goals;
   kept = h.kept;
-  own = h.own;
+  synthetic = h.synthetic;
   numbers = h.numbers;
   numbered = h.numbered;
   says = ap (λ ts. tree_meant ts number h.depths g.additions) grows.is
@@ -271,10 +271,10 @@ module _ (c : Module) (m : KeptModule) (size : ℕ) (big_endian : Bool) (first :
             counted =
                 sym (carry-length size big_endian c first placed new.strings (suc first) (map of_read (filter (is_carried_read m.kept) m.units.items)) h.made there)
                 ∙ ap length (sym (carried-read c m of.is)) ∙ sym (length-map (carried_in (kept_of c)) (λ (u : Unit). record { module_of = c; unit = u }));
-            each = λ at leads own_there.
+            each = λ at leads synthetic_there.
                 subst (λ us. AreMadeOf at size new.strings (length old.units.units.items) (map carried_unit (map (λ u. record { module_of = c; unit = u }) us)) (map (wanted_of big_endian c first) us) h.made) (sym (carried-read c m of.is))
                 (subst (λ n. AreMadeOf at size new.strings n (map carried_unit (map (λ u. record { module_of = c; unit = u }) (map of_read (filter (is_carried_read m.kept) m.units.items)))) (map (wanted_of big_endian c first) (map of_read (filter (is_carried_read m.kept) m.units.items))) h.made) (sym at_begin)
-                (carried-made c m of.is size big_endian first placed refl new.strings at own_there h.made there (subst (λ n. LeadsTo at n h.made) at_begin leads)));
+                (carried-made c m of.is size big_endian first placed refl new.strings at synthetic_there h.made there (subst (λ n. LeadsTo at n h.made) at_begin leads)));
           },
         )
 
@@ -319,7 +319,7 @@ module _ (fs : List Function) (told : ToldModule) (m : KeptModule) (i : ℕ) (r 
 pub of-itself : (c : Module) (fs : List Function) (told : ToldModule) (m : KeptModule) → IsOfModule c fs told m → IsOfModule c c.functions c.told m
 of-itself c fs told m of = record { functions = refl; told_is = refl; is = of.is; bytes = of.bytes }
 
--- Places that stand from a number on stand behind the module's own unit.
+-- Places that stand from a number on stand behind the module's synthetic unit.
 pub places-behind : (m : KeptModule) (number own : ℕ) (places : List EmittedEntry) → number ≡ suc own → places ≡ numbered_lists number (emitted m.kept m.units.items) → places ≡ numbered_lists (suc own) (emitted m.kept m.units.items)
 places-behind m number own places at are = are ∙ ap (λ n. numbered_lists n (emitted m.kept m.units.items)) at
 
@@ -327,6 +327,6 @@ places-behind m number own places at are = are ∙ ap (λ n. numbered_lists n (e
 pub added-at : (size : ℕ) (big_endian : Bool) (c : Module) (first : ℕ) (here there : List EmittedEntry) (u : Unit) (old new : Dwarf) → here ≡ there → AddsUnit size big_endian c first here u old new → AddsUnit size big_endian c first there u old new
 added-at size big_endian c first here there u old new same a = subst (λ ps. AddsUnit size big_endian c first ps u old new) same a
 
--- References to the own unit of a module, by what is told of the module.
-pub own-refers : (told : ToldModule) (c : Module) (fs : List Function) (m : KeptModule) (first : ℕ) {context address : DebugInfoRef} → IsOfModule c fs told m → ReferToOwn first told.memory context address → ReferToOwn first c.told.memory context address
-own-refers told c fs m first {context} {address} of refers = subst (λ (t : ToldModule). ReferToOwn first t.memory context address) (sym of.told_is) refers
+-- References to the synthetic unit of a module, by what is told of the module.
+pub synthetic-refers : (told : ToldModule) (c : Module) (fs : List Function) (m : KeptModule) (first : ℕ) {context address : DebugInfoRef} → IsOfModule c fs told m → ReferToSynthetic first told.memory context address → ReferToSynthetic first c.told.memory context address
+synthetic-refers told c fs m first {context} {address} of refers = subst (λ (t : ToldModule). ReferToSynthetic first t.memory context address) (sym of.told_is) refers

@@ -34,28 +34,29 @@ use Rattle.dwc_base.proofs.InLists.{contains-in}
 use Rattle.dwc_kept.proofs.KeptModuleLaws.{read-unit, read-entries}
 use Rattle.dwc_native.specs.Functions.{Function}
 use Rattle.dwc_native.specs.Compiled.{ToldModule}
-use Rattle.dwc_clif.specs.Registers.{Registers}
-use Rattle.dwc_clone.specs.declared.places.EmittedEntry.{EmittedEntry}
-use Rattle.dwc_clone.specs.declared.error.CloneError.{CloneError}
-use Rattle.dwc_clone.specs.declared.source.CloneSource.{CloneSource}
-use Rattle.dwc_clone.specs.Errors.{refusal_told}
-use Rattle.dwc_clone.specs.CompiledModules.{told_by}
-use Rattle.dwc_clone.specs.Sources.{AreFiles}
-use Rattle.dwc_clone.specs.ClonedUnits.{picked, placed_in, depths_of, draft_depths, source_with, clone_rules, clone_refusals, clone_drafts, goal_number, AreNumbered, IsCloned, TellsFirst}
-use Rattle.dwc_write.specs.GivenLines.{GivenLines}
-use Rattle.dwc_write.specs.GivenUnits.{GivenUnit, names_lines, in_file_order}
-use Rattle.dwc_write.specs.ReadBack.{given_segments}
-use Rattle.dwc_write.specs.WidestGiven.{widest_table_for}
+use Rattle.dwc_isa.specs.Registers.{Registers}
+use Rattle.dwc_source.specs.declared.places.EmittedEntry.{EmittedEntry}
+use Rattle.dwc_source.specs.declared.error.CloneError.{CloneError}
+use Rattle.dwc_source.specs.declared.source.CloneSource.{CloneSource}
+use Rattle.dwc_source.specs.Errors.{refusal_told}
+use Rattle.dwc_source.specs.CompiledModules.{told_by}
+use Rattle.dwc_source.specs.Sources.{AreFiles}
+use Rattle.dwc_clone.specs.ClonedUnits.{picked, placed_in, depths_of, draft_depths, clone_refusals, clone_drafts, goal_number, AreNumbered, IsCloned, TellsFirst}
+use Rattle.dwc_extents.specs.CodeSources.{source_with, clone_rules}
+use Rattle.dwc_unit.specs.GivenLines.{GivenLines}
+use Rattle.dwc_unit.specs.GivenUnits.{GivenUnit, names_lines, in_file_order}
+use Rattle.dwc_unit.specs.GivenSegments.{given_segments}
+use Rattle.dwc_unit.specs.WidestGiven.{widest_table_for}
 use Rattle.dwc_carry.specs.declared.error.DebugError.{DebugError}
 use Rattle.dwc_carry.specs.Refusals.{in_reading, of_cloning, RefusesReading}
 use Rattle.dwc_carry.specs.UnitPrograms.{CarriesNamed}
 use Rattle.dwc_carry.specs.MadeUnits.{HasNamesOf}
-use Rattle.dwc_carry.specs.OwnUnits.{ReferToOwn}
+use Rattle.dwc_carry.specs.SyntheticUnits.{ReferToSynthetic}
 use Rattle.dwc_carry.specs.CarriedUnits.{IsUnitOf, CarriesUnit, refusals_of}
 use Rattle.dwc_carry.proofs.RefusalLaws.{unmapped, reading-more, first-behind}
 use Rattle.dwc_carry.proofs.CauseLaws.{clone-told}
 use Rattle.dwc_carry.proofs.LinesNamed.{tree_says, has_lines, tree-names, root-says, root-drafted}
-use Rattle.dwc_carry.proofs.UnitSources.{read_of, unit-in, unit-is, picked-are, clonable, first-root, own-unit}
+use Rattle.dwc_carry.proofs.UnitSources.{read_of, unit-in, unit-is, picked-are, clonable, first-root, synthetic-unit}
 
 -- ---- the line table that a root names
 
@@ -97,9 +98,9 @@ offset-has e offset h = go (find (λ (a : ℕ × Value). a.0 == DW_AT_stmt_list)
     go None is k = absurd (clash k)
     go (Some a) is k = found-any (λ (a : ℕ × Value). a.0 == DW_AT_stmt_list) e.attributes a is
 
-first-listed : (o : Option Refusal) (r : Refusal) → o ≡ Some r → first_of (option_to_list o) ≡ Some r
-first-listed None r is = is
-first-listed (Some x) r is = is
+first-of_option : (o : Option Refusal) (r : Refusal) → o ≡ Some r → first_of (option_to_list o) ≡ Some r
+first-of_option None r is = is
+first-of_option (Some x) r is = is
 
 -- a line table is refused
 pub begun-refused : (c : Module) (fs : List Function) (told : ToldModule) (m : KeptModule) (first number : ℕ) (places : List EmittedEntry) (kept : List ℕ) (r : ReadUnit) → IsUnitOf c fs told m first number places kept r
@@ -109,7 +110,7 @@ begun-refused c fs told m first number places kept r of e met =
     let same : lines_refusal r.unit.sections r.unit.header r.line_table ≡ unit_refusal c.sections (unit_read c.sections r.unit.header) =
     ap (λ s. lines_refusal s r.unit.header r.line_table) is.sections ∙ ap (lines_refusal c.sections r.unit.header) is.lines in
     reading-more (lines_refusal r.unit.sections r.unit.header r.line_table) (first_of (refusals_of c (unit_read c.sections r.unit.header))) e
-    (λ x at. first-behind (option_to_list (unit_refusal c.sections (unit_read c.sections r.unit.header))) (kept_refusals (rules_of c) (kept_of c) (unit_read c.sections r.unit.header)) x (first-listed (unit_refusal c.sections (unit_read c.sections r.unit.header)) x (sym same ∙ at))) met
+    (λ x at. first-behind (option_to_list (unit_refusal c.sections (unit_read c.sections r.unit.header))) (kept_refusals (rules_of c) (kept_of c) (unit_read c.sections r.unit.header)) x (first-of_option (unit_refusal c.sections (unit_read c.sections r.unit.header)) x (sym same ∙ at))) met
 
 -- What is known of the line table of a carried unit, and of the program that carries it.
 record KnownTable (c : Module) (u : Unit) (lines : GivenLines) : Type 0 where
@@ -238,7 +239,7 @@ module _ (registers : Registers) (k : CloneSource) (compile : Bool) (table : Opt
   -- ---- the unit
 
   module _ (size : ℕ) (old new : List (List ℕ)) (begun made : GivenUnit) (sized : begun.address_size ≡ size) (carries : CarriesNamed k.transform.now k.unit.now.sections h size table k.files begun.lines)
-      (refers : ReferToOwn first c.told.memory k.vmctx_ptr k.wasm_ptr) (cloned : IsCloned registers k number (source_of (kept_of c) u) es old new begun made) where
+      (refers : ReferToSynthetic first c.told.memory k.vmctx_ptr k.wasm_ptr) (cloned : IsCloned registers k number (source_of (kept_of c) u) es old new begun made) where
     known : KnownTable c u begun.lines
     known = table-known size begun.lines carries
 
@@ -284,7 +285,7 @@ module _ (registers : Registers) (k : CloneSource) (compile : Bool) (table : Opt
       leads = cloned.leads;
       goals = goals;
       kept = λ offset. refl;
-      own = λ place. ap (λ (n : ℕ). Some (n, place)) (own-unit k compile table told c m first number kept of refl refers);
+      synthetic = λ place. ap (λ (n : ℕ). Some (n, place)) (synthetic-unit k compile table told c m first number kept of refl refers);
       numbers = cloned.numbers;
       numbered = subst (λ (ds : List Draft). AreNumbered goals number ds cloned.numbers made) drafts-are cloned.numbered;
       says = cloned.says ∙ ap (settled_unit goals) drafts-are;

@@ -19,7 +19,7 @@ use Rattle.dwc_dwarf.specs.Indexed.{texts_of_unit}
 use Rattle.dwc_rules.specs.Kept.{Placed, parent_of}
 use Rattle.dwc_native.specs.Functions.{Function}
 use Rattle.dwc_native.specs.Compiled.{ToldModule, Memory}
-use Rattle.dwc_rules.specs.OwnUnits.{place_of_context_pointer, place_of_wasm_pointer}
+use Rattle.dwc_rules.specs.SyntheticUnit.{place_of_context_pointer, place_of_wasm_pointer}
 use Rattle.dwc_rules.specs.TypeNames.{type_of}
 use Rattle.dwc_rules.specs.Targets.{target_of}
 use Rattle.dwc_dwarf.specs.Trees.{place_among}
@@ -34,20 +34,20 @@ use Rattle.dwc_kept.specs.KeptUnits.{is_in_unit, stands_at, kept_of_unit, IsTree
 use Rattle.dwc_kept.specs.ReadEntries.{named_offset}
 use Rattle.dwc_kept.specs.ReadUnits.{unit_read, IsReadUnit, IsKeptModule, is_carried_read}
 use Rattle.dwc_base.proofs.InLists.{IsIn, contains-in, in-contains, filter-in}
-use Rattle.dwc_expr.specs.Frames.{memory_view}
+use Rattle.dwc_isa.specs.ToldModules.{memory_view}
 use Rattle.dwc_kept.proofs.KeptAlone.{read-alone}
 use Rattle.dwc_kept.proofs.KeptGoals.{carried, inside}
 use Rattle.dwc_kept.proofs.KeptEmitted.{emitted-kept, kept-between, kept-emitted, read-rises}
 use Rattle.dwc_kept.proofs.KeptTypes.{keeps-placed, place-kept, type-placed}
-use Rattle.dwc_write.specs.declared.attributes.DebugInfoRef.{DebugInfoRef}
+use Rattle.dwc_unit.specs.declared.attributes.DebugInfoRef.{DebugInfoRef}
 use Rattle.dwc_kept.proofs.ReadLaws.{first-unit, first-fault}
 use Rattle.dwc_kept.proofs.KeptInUnits.{are-kept}
 use Rattle.dwc_kept.proofs.KeptModuleLaws.{read-unit, read-within, read-tree, read-root, read-reference, read-named, read-inside, read-lists}
-use Rattle.dwc_clone.specs.declared.source.CloneSource.{CloneSource}
-use Rattle.dwc_clone.specs.Sources.{AreEmitted, AreFiles, IsSource, IsEmitted, IsReadAlone, own_unit_of, unit_of as unit_referred}
-use Rattle.dwc_carry.specs.OwnUnits.{entry_of, ReferToOwn}
-use Rattle.dwc_clone.specs.declared.places.EmittedEntry.{EmittedEntry}
-use Rattle.dwc_clone.specs.OutputPlaces.{place_of}
+use Rattle.dwc_source.specs.declared.source.CloneSource.{CloneSource}
+use Rattle.dwc_source.specs.Sources.{AreEmitted, AreFiles, IsSource, IsEmitted, IsReadAlone, synthetic_unit_of, unit_of as unit_referred}
+use Rattle.dwc_carry.specs.SyntheticUnits.{entry_of, ReferToSynthetic}
+use Rattle.dwc_source.specs.declared.places.EmittedEntry.{EmittedEntry}
+use Rattle.dwc_source.specs.OutputPlaces.{place_of}
 use Rattle.dwc_clone.specs.ClonedUnits.{picked, depths_of, AreClonable}
 use Rattle.dwc_carry.specs.ModulePlaces.{emitted}
 use Rattle.dwc_carry.specs.CarriedUnits.{IsOfModule, IsUnitOf}
@@ -256,12 +256,12 @@ module _ (k : CloneSource) (compile : Bool) (table : Option ℕ) (told : ToldMod
         (emitted-kept c m is (read_of k compile table) unit-in (suc first) f (contains-in (kept_of c).entries f emitted.among) emitted.unit (sym (placed-is f.entry.offset) ∙ emitted.kept));
   })
 
-  module _ (memory : told.memory ≡ memory_view k.module.memory) (refers : ReferToOwn first c.told.memory k.vmctx_ptr k.wasm_ptr) where
+  module _ (memory : told.memory ≡ memory_view k.module.memory) (refers : ReferToSynthetic first c.told.memory k.vmctx_ptr k.wasm_ptr) where
     memory-is : c.told.memory ≡ memory_view k.module.memory
     memory-is = ap (λ (t : ToldModule). t.memory) (of.module_is).told_is ∙ memory
 
-    pub own-unit : own_unit_of k ≡ first
-    own-unit = ap (λ (r : DebugInfoRef). unit_referred r) refers.context_pointer
+    pub synthetic-unit : synthetic_unit_of k ≡ first
+    synthetic-unit = ap (λ (r : DebugInfoRef). unit_referred r) refers.context_pointer
 
     types-emitted : (e f : Placed) → IsEmitted k (source_of (kept_of c) unit_of) e → type_of (source_of (kept_of c) unit_of).entries e ≡ Some f → IsEmitted k (source_of (kept_of c) unit_of) f
     unfolding source_of kept_module
@@ -300,8 +300,8 @@ module _ (k : CloneSource) (compile : Bool) (table : Option ℕ) (told : ToldMod
       named = λ e f v own at placed. read-named c m is (read_of k compile table) unit-in e f own v at (place-kept c m is f.entry.offset (suc first) (sym (placed-is f.entry.offset) ∙ placed));
       inside = λ f among. read-inside c m is (read_of k compile table) unit-in f (contains-in (kept_of c).entries f among);
       own = of.own;
-      context = refers.context_pointer ∙ ap₂ (λ (n : ℕ) (x : Memory). entry_of n (place_of_context_pointer x)) (sym own-unit) memory-is;
-      address = refers.wasm_pointer ∙ ap₂ (λ (n : ℕ) (x : Memory). entry_of n (place_of_wasm_pointer x)) (sym own-unit) memory-is;
+      context = refers.context_pointer ∙ ap₂ (λ (n : ℕ) (x : Memory). entry_of n (place_of_context_pointer x)) (sym synthetic-unit) memory-is;
+      address = refers.wasm_pointer ∙ ap₂ (λ (n : ℕ) (x : Memory). entry_of n (place_of_wasm_pointer x)) (sym synthetic-unit) memory-is;
       types = types-emitted;
       alone = read-so;
       parameters = parameters-emitted;

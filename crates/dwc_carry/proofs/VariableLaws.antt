@@ -1,4 +1,4 @@
--- The labels of a listed function: what is refused of each, and the unit with its entry.
+-- The labels of a simulated function: what is refused of each, and the unit with its entry.
 use Rattle.std.proofs.Common.{◌≡◌, ℕ, ◌+◌, ◌<◌, arith, refl, sym, ap, subst, ◌∙◌, List, [], ◌∷◌, ◌++◌, length, Bool, true, false, Option, Some, None, Result}
 use Rattle.std.specs.Prelude.{◌==◌, ◌||◌, cond, is_some, option_and_then, if◌then◌else◌}
 use Rattle.std.specs.List.{filter, flat_map}
@@ -9,19 +9,19 @@ use Rattle.dwc_carried.specs.DefinedFunctions.{DefinedFunction}
 use Rattle.dwc_native.specs.Parts.{context_label}
 use Rattle.dwc_rules.specs.Refusals.{Refusal}
 use Rattle.dwc_base.specs.Listing.{first_of}
-use Rattle.dwc_carried.specs.SimulatedUnit.{has_entry, label_located, place_of_type, type_place, variable_refusals}
+use Rattle.dwc_carried.specs.SimulatedUnit.{has_entry, label_locations, place_of_type, type_place, variable_refusals}
 use Rattle.dwc_base.specs.ToldFiles.{type_of_local}
 use Rattle.dwc_dwarf.specs.Trees.{Location}
-use Rattle.dwc_clif.specs.Registers.{Registers}
+use Rattle.dwc_isa.specs.Registers.{Registers}
 use Rattle.dwc_expr.specs.Builds.{surroundings}
-use Rattle.dwc_write.specs.AddedInOrder.{with_entry}
-use Rattle.dwc_write.specs.GivenUnits.{Addition, GivenUnit}
+use Rattle.dwc_unit.specs.AddedInOrder.{with_entry}
+use Rattle.dwc_unit.specs.GivenUnits.{Addition, GivenUnit}
 use Rattle.dwc_clone.specs.ContextPlaces.{HasContext}
-use Rattle.dwc_write.specs.declared.attributes.DebugInfoRef.{DebugInfoRef}
+use Rattle.dwc_unit.specs.declared.attributes.DebugInfoRef.{DebugInfoRef}
 use Rattle.dwc_carry.specs.declared.error.DebugError.{DebugError}
-use Rattle.dwc_carry.specs.declared.simulated_functions.ListedModule.{ListedModule}
-use Rattle.dwc_carry.specs.declared.simulated_variables.ListedFunction.{ListedFunction}
-use Rattle.dwc_carry.specs.ListedVariables.{Extends, IsListedFunction, label_refusals, refused_in}
+use Rattle.dwc_carry.specs.declared.simulated_functions.SimulatedModule.{SimulatedModule}
+use Rattle.dwc_carry.specs.declared.simulated_variables.SimulatedFunction.{SimulatedFunction}
+use Rattle.dwc_carry.specs.SimulatedVariables.{Extends, IsSimulatedFunction, label_refusals, refused_in}
 use Rattle.dwc_carry.specs.MadeEntries.{IsDense}
 use Rattle.dwc_carry.specs.Refusals.{RefusesReading}
 use Rattle.dwc_carry.specs.SimulatedAdditions.{context_addition}
@@ -71,18 +71,18 @@ refusals-cond g p (x ∷ xs) = go (p x) (refusals-cond g p xs)
 
 -- What is refused of all variables of a function, label by label.
 pub refusals-by-label : (m : Module) (d : DefinedFunction) → variable_refusals m d ≡ flat_map (label_refusals m d) (m.told.labels d.function.number)
-refusals-by-label m d = refusals-cond (λ label. refused_in m.told.place (label_located m d.function label)) (has_entry m d) (m.told.labels d.function.number)
+refusals-by-label m d = refusals-cond (λ label. refused_in m.told.place (label_locations m d.function label)) (has_entry m d) (m.told.labels d.function.number)
 
 module _ (m : Module) (d : DefinedFunction) (label : ℕ) where
   abbrev refused : Bool → List Refusal
-  refused b = if b then refused_in m.told.place (label_located m d.function label) else []
+  refused b = if b then refused_in m.told.place (label_locations m d.function label) else []
 
   -- of the context
-  pub context-refusals : (label == context_label) ≡ true → label_refusals m d label ≡ refused_in m.told.place (label_located m d.function label)
+  pub context-refusals : (label == context_label) ≡ true → label_refusals m d label ≡ refused_in m.told.place (label_locations m d.function label)
   context-refusals is = ap (λ b. refused (b || is_some (type_place m d label))) is
 
   -- of a local whose type has an entry
-  pub typed-refusals : (label == context_label) ≡ false → (type : ℕ) → type_place m d label ≡ Some type → label_refusals m d label ≡ refused_in m.told.place (label_located m d.function label)
+  pub typed-refusals : (label == context_label) ≡ false → (type : ℕ) → type_place m d label ≡ Some type → label_refusals m d label ≡ refused_in m.told.place (label_locations m d.function label)
   typed-refusals other type is = ap (λ b. refused (b || is_some (type_place m d label))) other ∙ ap (λ (o : Option ℕ). refused (is_some o)) is
 
   -- and of another
@@ -100,26 +100,26 @@ module _ (m : Module) (d : DefinedFunction) (label : ℕ) where
 
 -- ---- where labels lie
 
-module _ (registers : Registers) (m : Module) (d : DefinedFunction) (l : ListedModule) (f : ListedFunction) (listed : IsListedFunction registers m d l f) where
+module _ (registers : Registers) (m : Module) (d : DefinedFunction) (l : SimulatedModule) (f : SimulatedFunction) (simulated : IsSimulatedFunction registers m d l f) where
   -- the locations of a label are those over the scope that is given
-  pub listed-located : (label : ℕ) → label_over (surroundings l.transform.now (Some f.frame) registers) (f.scope ∷ []) label ≡ label_located m d.function label
-  listed-located label =
-      ap (λ scope. label_over (surroundings l.transform.now (Some f.frame) registers) (scope ∷ []) label) listed.scope
-      ∙ located-is m d.function label (surroundings l.transform.now (Some f.frame) registers) listed.surrounded
+  pub simulated-located : (label : ℕ) → label_over (surroundings l.transform.now (Some f.frame) registers) (f.scope ∷ []) label ≡ label_locations m d.function label
+  simulated-located label =
+      ap (λ scope. label_over (surroundings l.transform.now (Some f.frame) registers) (scope ∷ []) label) simulated.scope
+      ∙ located-is m d.function label (surroundings l.transform.now (Some f.frame) registers) simulated.surrounded
 
   -- an error of a label that has an entry, the first that is left
-  pub listed-refused : (label : ℕ) (left : List ℕ) (total : Option Refusal) (e : DebugError) → label_refusals m d label ≡ refused_in m.told.place (label_located m d.function label)
+  pub simulated-refused : (label : ℕ) (left : List ℕ) (total : Option Refusal) (e : DebugError) → label_refusals m d label ≡ refused_in m.told.place (label_locations m d.function label)
       → first_of (flat_map (label_refusals m d) (label ∷ left)) ≡ total
       → RefusesReading (first_of (refused_in l.compiled.now.place (label_over (surroundings l.transform.now (Some f.frame) registers) (f.scope ∷ []) label))) e
       → RefusesReading total e
-  listed-refused label left total e is first h =
+  simulated-refused label left total e is first h =
       label-first m d label left total e first
       (subst (λ rs. RefusesReading (first_of rs) e)
-      (ap (λ place. refused_in place (label_over (surroundings l.transform.now (Some f.frame) registers) (f.scope ∷ []) label)) listed.place
-      ∙ ap (refused_in m.told.place) (listed-located label)
+      (ap (λ place. refused_in place (label_over (surroundings l.transform.now (Some f.frame) registers) (f.scope ∷ []) label)) simulated.place
+      ∙ ap (refused_in m.told.place) (simulated-located label)
       ∙ sym is)
       h)
 
   -- the place of a local's type is that among the locals that are given
   pub typed-there : (label : ℕ) (o : Option ℕ) → o ≡ option_and_then place_of_type (type_of_local f.locals.now label) → type_place m d label ≡ o
-  typed-there label o is = sym (is ∙ ap (λ locals. option_and_then place_of_type (type_of_local locals label)) listed.locals)
+  typed-there label o is = sym (is ∙ ap (λ locals. option_and_then place_of_type (type_of_local locals label)) simulated.locals)

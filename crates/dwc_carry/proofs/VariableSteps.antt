@@ -1,4 +1,4 @@
--- A listed function, label by label, and a module, function by function.
+-- A simulated function, label by label, and a module, function by function.
 use Rattle.std.proofs.Common.{◌≡◌, ℕ, refl, sym, ap, subst, ◌∙◌, List, [], ◌∷◌, map, true, false, Option, Some, None, Result, Ok, Err}
 use Rattle.std.specs.Prelude.{◌==◌, option_map}
 use Rattle.std.proofs.lemmas.Bool.{eqb-true}
@@ -9,31 +9,31 @@ use Rattle.dwc_rules.specs.Drafts.{Draft}
 use Rattle.dwc_native.specs.Parts.{context_label}
 use Rattle.dwc_rules.specs.Refusals.{Refusal}
 use Rattle.dwc_base.specs.Listing.{first_of}
-use Rattle.dwc_carried.specs.SimulatedUnit.{label_located, local_name, local_tag, type_place}
+use Rattle.dwc_carried.specs.SimulatedUnit.{label_locations, local_name, local_tag, type_place}
 use Rattle.dwc_dwarf.specs.Trees.{TreeValue}
-use Rattle.dwc_clif.specs.Registers.{Registers}
-use Rattle.dwc_clif.specs.declared.value_label.ValueLabel.{ValueLabel}
+use Rattle.dwc_isa.specs.Registers.{Registers}
+use Rattle.dwc_isa.specs.declared.value_label.ValueLabel.{ValueLabel}
 use Rattle.dwc_expr.specs.Builds.{location_view, surroundings}
-use Rattle.dwc_write.specs.LocationLists.{LocationList}
-use Rattle.dwc_write.specs.declared.strings.StringId.{StringId}
-use Rattle.dwc_write.specs.AddedInOrder.{with_entry}
-use Rattle.dwc_write.specs.GivenUnits.{GivenUnit}
+use Rattle.dwc_unit.specs.LocationLists.{LocationList}
+use Rattle.dwc_unit.specs.declared.strings.StringId.{StringId}
+use Rattle.dwc_unit.specs.AddedInOrder.{with_entry}
+use Rattle.dwc_unit.specs.GivenUnits.{GivenUnit}
 use Rattle.dwc_clone.specs.ContextPlaces.{HasContext}
-use Rattle.dwc_clone.specs.KnownTexts.{IsNumbered}
-use Rattle.dwc_clone.specs.MadeValues.{Grows}
+use Rattle.dwc_source.specs.KnownTexts.{IsNumbered}
+use Rattle.dwc_source.specs.MadeValues.{Grows}
 use Rattle.dwc_carry.specs.declared.error.DebugError.{DebugError}
-use Rattle.dwc_carry.specs.declared.simulated_functions.ListedModule.{ListedModule}
-use Rattle.dwc_carry.specs.declared.simulated_variables.ListedFunction.{ListedFunction}
-use Rattle.dwc_carry.specs.ListedVariables.{AddsContextOr, GivesVariable, GivesVariables, IsListedFunction, LeftVariables, label_refusals, local_tag_of, refused_in}
-use Rattle.dwc_carry.specs.OwnUnits.{reference_meant}
+use Rattle.dwc_carry.specs.declared.simulated_functions.SimulatedModule.{SimulatedModule}
+use Rattle.dwc_carry.specs.declared.simulated_variables.SimulatedFunction.{SimulatedFunction}
+use Rattle.dwc_carry.specs.SimulatedVariables.{AddsContextOr, GivesVariable, GivesVariables, IsSimulatedFunction, LeftVariables, label_refusals, local_tag_of, refused_in}
+use Rattle.dwc_carry.specs.SyntheticUnits.{reference_meant}
 use Rattle.dwc_carry.specs.Refusals.{RefusesReading, in_reading}
 use Rattle.dwc_carry.specs.SimulatedAdditions.{local_addition}
-use Rattle.dwc_carry.proofs.VariableLaws.{context-refusals, listed-located, listed-refused, nothing-first, typed-refusals, untyped-refusals}
+use Rattle.dwc_carry.proofs.VariableLaws.{context-refusals, simulated-located, simulated-refused, nothing-first, typed-refusals, untyped-refusals}
 use Rattle.dwc_carry.proofs.SimulatedSteps.{variables-context, variables-local, variables-none}
 
 -- ---- labels
 
-module _ (registers : Registers) (m : Module) (d : DefinedFunction) (l : ListedModule) (f : ListedFunction) (listed : IsListedFunction registers m d l f) (number : ℕ) (before : List Draft) (left : List ℕ) (total : Option Refusal) where
+module _ (registers : Registers) (m : Module) (d : DefinedFunction) (l : SimulatedModule) (f : SimulatedFunction) (simulated : IsSimulatedFunction registers m d l f) (number : ℕ) (before : List Draft) (left : List ℕ) (total : Option Refusal) where
   -- the type of a pointer to the context
   abbrev pointer : TreeValue
   pointer = reference_meant l.vmctx_ptr
@@ -43,11 +43,11 @@ module _ (registers : Registers) (m : Module) (d : DefinedFunction) (l : ListedM
       → HasContext (label_over (surroundings l.transform.now (Some f.frame) registers) (f.scope ∷ []) context_label) f.entry.index l.vmctx_ptr new u v
       → LeftVariables number pointer m d before left f.entry.index total new v
   left-context old new label u v grows is has context =
-      let there : HasContext (label_located m d.function context_label) f.entry.index l.vmctx_ptr new u v =
-      subst (λ r. HasContext r f.entry.index l.vmctx_ptr new u v) (listed-located registers m d l f listed context_label) context in
+      let there : HasContext (label_locations m d.function context_label) f.entry.index l.vmctx_ptr new u v =
+      subst (λ r. HasContext r f.entry.index l.vmctx_ptr new u v) (simulated-located registers m d l f simulated context_label) context in
       let none : label_refusals m d label ≡ [] =
       context-refusals m d label is
-      ∙ ap (λ n. refused_in m.told.place (label_located m d.function n)) (eqb-true label context_label is)
+      ∙ ap (λ n. refused_in m.told.place (label_locations m d.function n)) (eqb-true label context_label is)
       ∙ ap (refused_in m.told.place) there.located in
       record {
         made = variables-context number pointer m d before old new label left f.entry.index l.vmctx_ptr u v grows refl has.made is there;
@@ -61,9 +61,9 @@ module _ (registers : Registers) (m : Module) (d : DefinedFunction) (l : ListedM
       → v ≡ with_entry (local_addition f.entry.index tag name type list) u
       → LeftVariables number pointer m d before left f.entry.index total new v
   left-typed old new label type u v bytes tag name list grows other typed has named known tagged located is =
-      let there : label_located m d.function label ≡ Ok (map location_view list.locations.items) = sym (listed-located registers m d l f listed label) ∙ located in
+      let there : label_locations m d.function label ≡ Ok (map location_view list.locations.items) = sym (simulated-located registers m d l f simulated label) ∙ located in
       let none : label_refusals m d label ≡ [] = typed-refusals m d label other type typed ∙ ap (refused_in m.told.place) there in
-      let same : tag ≡ local_tag m d label = tagged ∙ ap (λ locals. local_tag_of locals label) listed.locals in
+      let same : tag ≡ local_tag m d label = tagged ∙ ap (λ locals. local_tag_of locals label) simulated.locals in
       record {
         made = variables-local number pointer m d before old new label left f.entry.index type u v name list grows has.made other typed (subst (λ text. IsNumbered new text name) named known) there (is ∙ ap (λ t. with_entry (local_addition f.entry.index t name type list) u) same);
         first = nothing-first m d label left total none has.first;
@@ -83,7 +83,7 @@ module _ (registers : Registers) (m : Module) (d : DefinedFunction) (l : ListedM
       → GivesVariable number pointer m d before left f.entry.index total new v r
   context-gives old new label u v (Ok done) grows is has h = left-context old new label u v grows is has h
   context-gives old new label u v (Err e) grows is has h =
-      listed-refused registers m d l f listed label left total e (context-refusals m d label is) has.first
+      simulated-refused registers m d l f simulated label left total e (context-refusals m d label is) has.first
       (subst (λ n. RefusesReading (first_of (refused_in l.compiled.now.place (label_over (surroundings l.transform.now (Some f.frame) registers) (f.scope ∷ []) n))) e) (sym (eqb-true label context_label is)) h)
 
 -- What is left stands as the first label and those behind it.

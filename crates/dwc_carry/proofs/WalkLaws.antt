@@ -27,7 +27,7 @@ use Rattle.dwc_kept.proofs.KeptDepths.{depths_of}
 use Rattle.dwc_kept.proofs.KeptInUnits.{AreKept, Rising, are-kept, in-unit, kept-entry, of-unit, rising-units}
 use Rattle.dwc_kept.proofs.KeptModuleLaws.{read-in}
 use Rattle.dwc_kept.proofs.KeptStanding.{UnitsStand, placed_at, placed-unit, unit-from}
-use Rattle.dwc_clone.specs.Lineages.{AreWalked}
+use Rattle.dwc_extents.specs.Lineages.{AreWalked}
 
 -- ---- parents, looked for from the first entry on
 

@@ -1,7 +1,7 @@
 -- What is made of the modules of an input.
 use Rattle.std.specs.Prelude.{◌≡◌, ℕ, List, ◌++◌, map, length, Bool, Option, None, Result, All}
 use Rattle.std.specs.List.{flat_map}
-use Rattle.dwc_base.specs.declared.wasm.ModuleTranslation.{ModuleTranslation}
+use Rattle.dwc_base.specs.declared.translation.ModuleTranslation.{ModuleTranslation}
 use Rattle.dwc_base.specs.Translations.{translation_sections}
 use Rattle.dwc_base.specs.TranslationNames.{told_file}
 use Rattle.dwc_native.specs.Functions.{Function}
@@ -13,15 +13,15 @@ use Rattle.dwc_rules.specs.DraftForests.{trees_from}
 use Rattle.dwc_carried.specs.Forests.{reading_refusals, module_refusals}
 use Rattle.dwc_rules.specs.ModuleDrafts.{module_drafts}
 use Rattle.dwc_rules.specs.CarriedUnits.{wanted_units_of}
-use Rattle.dwc_write.specs.declared.units.Dwarf.{Dwarf}
-use Rattle.dwc_write.specs.GivenUnits.{GivenUnit}
-use Rattle.dwc_clone.specs.MadeValues.{Grows}
+use Rattle.dwc_unit.specs.declared.units.Dwarf.{Dwarf}
+use Rattle.dwc_unit.specs.GivenUnits.{GivenUnit}
+use Rattle.dwc_source.specs.MadeValues.{Grows}
 use Rattle.dwc_carry.specs.declared.error.DebugError.{DebugError}
 use Rattle.dwc_carry.specs.Refusals.{ReadsOr}
 use Rattle.dwc_carry.specs.MadeUnits.{LeadsTo, AreMadeOf}
 use Rattle.dwc_carry.specs.declared.carry_modules.CarriedModules.{CarriedModules}
 use Rattle.dwc_carry.specs.CarriedUnits.{AddsUnits}
-use Rattle.dwc_carry.specs.LastUnits.{AreTranslated, ReferToContexts}
+use Rattle.dwc_carry.specs.SimulatedUnits.{AreTranslated, ReferToContexts}
 use Rattle.dwc_carry.specs.SimulatedDrafts.{ContextsStay}
 
 -- a module, with the functions that its transform keeps and what is told of it
@@ -30,7 +30,7 @@ transformed_module t fs told = record { sections = translation_sections t; funct
 
 -- ---- what is read of a module
 
--- Units are added that carry the units of a module, whose units are read to their ends, behind its own unit, which has a number; the
+-- Units are added that carry the units of a module, whose units are read to their ends, behind its synthetic unit, which has a number; the
 -- table of texts has grown.
 pub record AddsCarried (size : ℕ) (big_endian : Bool) (m : Module) (own : ℕ) (old new : Dwarf) : Type 0 where
   pub units_added : AddsUnits size big_endian m own old new

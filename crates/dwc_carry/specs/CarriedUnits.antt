@@ -9,9 +9,9 @@ use Rattle.dwc_dwarf.specs.ReadUnits.{Unit}
 use Rattle.dwc_rules.specs.Refusals.{Refusal, unit_refusal}
 use Rattle.dwc_base.specs.Listing.{first_of}
 use Rattle.dwc_rules.specs.KeptModules.{carried_in}
-use Rattle.dwc_rules.specs.Drafts.{Goal, made_of, own_entry, itself}
+use Rattle.dwc_rules.specs.Drafts.{Goal, made_of, synthetic_entry, itself}
 use Rattle.dwc_rules.specs.DraftForests.{place_of_goal, settled_unit}
-use Rattle.dwc_rules.specs.OwnUnits.{own_unit}
+use Rattle.dwc_rules.specs.SyntheticUnit.{synthetic_unit}
 use Rattle.dwc_rules.specs.ReachedEntries.{unit_refusals}
 use Rattle.dwc_carried.specs.Forests.{rules_of, drafts_of}
 use Rattle.dwc_rules.specs.ModuleDrafts.{module_drafts}
@@ -20,14 +20,14 @@ use Rattle.dwc_dwarf.specs.Trees.{Tree}
 use Rattle.dwc_kept.specs.declared.read_unit.ReadUnit.{ReadUnit}
 use Rattle.dwc_kept.specs.declared.kept_units.KeptModule.{KeptModule}
 use Rattle.dwc_kept.specs.ReadUnits.{IsKeptModule}
-use Rattle.dwc_clone.specs.declared.places.EmittedEntry.{EmittedEntry}
-use Rattle.dwc_clone.specs.OutputPlaces.{place_of}
-use Rattle.dwc_clone.specs.MadeValues.{Grows}
-use Rattle.dwc_write.specs.declared.units.Dwarf.{Dwarf}
-use Rattle.dwc_write.specs.AddedInOrder.{IsInOrder, tree_meant}
-use Rattle.dwc_write.specs.Renumbered.{LeadsToEntries}
-use Rattle.dwc_write.specs.GivenUnits.{GivenUnit, IsWritable, ordered}
-use Rattle.dwc_write.specs.UsedTexts.{texts_of_attributes}
+use Rattle.dwc_source.specs.declared.places.EmittedEntry.{EmittedEntry}
+use Rattle.dwc_source.specs.OutputPlaces.{place_of}
+use Rattle.dwc_source.specs.MadeValues.{Grows}
+use Rattle.dwc_unit.specs.declared.units.Dwarf.{Dwarf}
+use Rattle.dwc_unit.specs.AddedInOrder.{IsInOrder, tree_meant}
+use Rattle.dwc_unit.specs.Renumbered.{LeadsToEntries}
+use Rattle.dwc_unit.specs.GivenUnits.{GivenUnit, IsWritable, ordered}
+use Rattle.dwc_unit.specs.UsedTexts.{texts_of_attributes}
 use Rattle.dwc_clone.specs.ClonedUnits.{AreNumbered}
 use Rattle.dwc_carry.specs.declared.error.DebugError.{DebugError}
 use Rattle.dwc_carry.specs.declared.last_lines.LastLines.{LastLines}
@@ -38,8 +38,8 @@ use Rattle.dwc_carry.specs.ModulePlaces.{carried_offsets, emitted, numbered_list
 
 -- ---- a module
 
--- The units and the kept entries that were read are those of a module with some functions, of which something is told, whose `.debug_info` is
--- bytes.
+-- The units and the kept entries that were read are those of a module with some functions, of which something is told, whose `.debug_info`
+-- is bytes.
 pub record IsOfModule (c : Module) (fs : List Function) (told : ToldModule) (m : KeptModule) : Type 0 where
   pub functions : c.functions ≡ fs
   pub told_is : c.told ≡ told
@@ -55,7 +55,7 @@ pub record HasModule (fs : List Function) (told : ToldModule) (m : KeptModule) :
 abbrev pub refusals_of : Module → Unit → List Refusal
 refusals_of c u = unit_refusals (unit_refusal c.sections) (rules_of c) (kept_of c) u
 
--- what its unit of the output is to say, where the module's own unit, the first of the module, has a number there
+-- what its unit of the output is to say, where the module's synthetic unit, the first of the module, has a number there
 abbrev pub wanted_of : Bool → Module → ℕ → Unit → Tree
 wanted_of big_endian c first u = settled_unit (place_of_goal first (module_drafts big_endian c)) (drafts_of big_endian (record { module_of = c; unit = u }))
 
@@ -71,9 +71,9 @@ pub record IsUnitOf (c : Module) (fs : List Function) (told : ToldModule) (m : K
   pub places_are : places ≡ numbered_lists (suc first) (emitted m.kept m.units.items)
   pub own : (offset : ℕ) (p : ℕ × ℕ) → r.unit.header.offset ≤ offset → offset < r.unit.header.end → place_of places offset ≡ Some p → p.0 ≡ number
 
--- A unit to be written, of a number, carries a unit of a module, whose own unit is the first of the module, where the offsets of kept entries
--- have numbers: it has the lines of that; and what its kept entries become was added in file order, under some numbers, and says with
--- these what it is to say.
+-- A unit to be written, of a number, carries a unit of a module, whose synthetic unit is the first of the module, where the offsets of kept
+-- entries have numbers: it has the lines of that; and what its kept entries become was added in file order, under some numbers, and says
+-- with these what it is to say.
 pub record CarriesUnit (size : ℕ) (big_endian : Bool) (c : Module) (first : ℕ) (places : List EmittedEntry) (table : List (List ℕ)) (number : ℕ) (u : Unit) (made : GivenUnit) : Type 0 where
   pub has_lines : HasLinesOf (record { module_of = c; unit = u }) made
   pub depths : List ℕ
@@ -81,7 +81,7 @@ pub record CarriesUnit (size : ℕ) (big_endian : Bool) (c : Module) (first : �
   pub leads : LeadsToEntries made
   pub goals : Goal → Option (ℕ × ℕ)
   pub kept : (offset : ℕ) → goals (made_of offset itself) ≡ place_of places offset
-  pub own : (place : ℕ) → goals (own_entry place) ≡ Some (first, place)
+  pub synthetic : (place : ℕ) → goals (synthetic_entry place) ≡ Some (first, place)
   pub numbers : List ℕ
   pub numbered : AreNumbered goals number (drafts_of big_endian (record { module_of = c; unit = u })) numbers made
   pub says : tree_meant table number depths made.additions ≡ settled_unit goals (drafts_of big_endian (record { module_of = c; unit = u }))
@@ -114,7 +114,7 @@ pub record AddsUnits (size : ℕ) (big_endian : Bool) (c : Module) (first : ℕ)
   pub added : new.units.units.items ≡ old.units.units.items ++ made
   pub grows : Grows old.strings new.strings
   pub counted : length made ≡ length (carried_units_of c)
-  pub each : (at : ℕ → ℕ → Option (ℕ × ℕ)) → LeadsTo at (length old.units.units.items) made → ((place : ℕ) → place < length (own_unit c.told.names.set_memory c.told.memory) → at first place ≡ Some (first, place))
+  pub each : (at : ℕ → ℕ → Option (ℕ × ℕ)) → LeadsTo at (length old.units.units.items) made → ((place : ℕ) → place < length (synthetic_unit c.told.names.set_memory c.told.memory) → at first place ≡ Some (first, place))
       → AreMadeOf at size new.strings (length old.units.units.items) (map carried_unit (carried_units_of c)) (map (wanted_of big_endian c first) (carried_in (kept_of c))) made
 
 -- They are added, or the first refusal is answered.

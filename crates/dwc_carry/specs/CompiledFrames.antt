@@ -5,10 +5,10 @@ use Rattle.std.specs.List.{cons_option}
 use Rattle.dwc_base.specs.declared.records.Endian.{Endian}
 use Rattle.dwc_native.specs.CallFrames.{CommonEntry, FrameDescription}
 use Rattle.dwc_carried.specs.Forests.{frame_descriptions}
-use Rattle.dwc_clif.specs.CallFrames.{description_of_metadata}
-use Rattle.dwc_clif.specs.Registers.{Registers}
-use Rattle.dwc_write.specs.declared.frames.FrameTable.{FrameTable}
-use Rattle.dwc_write.specs.Frames.{table_view}
+use Rattle.dwc_compiled.specs.FunctionFrames.{description_of_metadata}
+use Rattle.dwc_isa.specs.Registers.{Registers}
+use Rattle.dwc_frames.specs.declared.frames.FrameTable.{FrameTable}
+use Rattle.dwc_frames.specs.Frames.{table_view}
 use Rattle.dwc_addr.specs.Compilations.{CompilationValue}
 use Rattle.dwc_addr.specs.Numbers.{Compiled}
 use Rattle.dwc_carry.specs.Inputs.{input_of}

@@ -11,13 +11,13 @@ use Rattle.dwc_native.specs.CallFrames.{CommonEntry, is_sound_if}
 use Rattle.dwc_carried.specs.Forests.{trees_made}
 use Rattle.dwc_carried.specs.OutputCarried.{OutputCarried, widest}
 use Rattle.dwc_dwarf.specs.TreeLaws.{have_short_expressions}
-use Rattle.dwc_clif.specs.Registers.{Registers}
+use Rattle.dwc_isa.specs.Registers.{Registers}
 use Rattle.dwc_addr.specs.Compilations.{CompilationValue}
-use Rattle.dwc_write.specs.Frames.{common_given, descriptions_given}
-use Rattle.dwc_write.specs.GivenUnits.{AreWritable, ordered}
+use Rattle.dwc_frames.specs.Frames.{common_given, descriptions_given}
+use Rattle.dwc_unit.specs.GivenUnits.{AreWritable, ordered}
 use Rattle.dwc_write.specs.SpelledOutput.{AreSpelled}
-use Rattle.dwc_write.specs.UsedTexts.{HaveTexts}
-use Rattle.dwc_write.specs.Writers.{IsSound}
+use Rattle.dwc_unit.specs.UsedTexts.{HaveTexts}
+use Rattle.dwc_section.specs.Writers.{IsSound}
 use Rattle.dwc_carry.specs.declared.emit.CarriedDwarf.{CarriedDwarf}
 use Rattle.dwc_carry.specs.declared.error.DebugError.{DebugError}
 use Rattle.dwc_carry.specs.CompiledFrames.{DescribesAll}
@@ -59,8 +59,8 @@ pub record IsCarried (order : Endian) (size : ℕ) (registers : Registers) (entr
   pub common : common_given carried.frames ≡ entry
   pub frames : IfSome carried.frames (λ table. DescribesAll c table)
 
--- The DWARF of a compilation is carried where nothing is refused but in its frames; or there is a cause: the first other refusal, or want of
--- memory.
+-- The DWARF of a compilation is carried where nothing is refused but in its frames; or there is a cause: the first other refusal, or want
+-- of memory.
 abbrev pub Carries : Endian → ℕ → Registers → Option CommonEntry → CompilationValue → Result CarriedDwarf DebugError → Type 0
 Carries order size registers entry c (Ok carried) = IsCarried order size registers entry c carried
 Carries order size registers entry c (Err e) = Refuses (refusal_of order size registers None c) e

@@ -4,7 +4,7 @@ use Rattle.std.specs.List.{flat_map}
 use Rattle.std.specs.Option.{option_or}
 use Rattle.dwc_base.specs.declared.records.Endian.{Endian}
 use Rattle.dwc_base.specs.declared.records.MapFault.{MapFault}
-use Rattle.dwc_base.specs.declared.wasm.ModuleTranslation.{ModuleTranslation}
+use Rattle.dwc_base.specs.declared.translation.ModuleTranslation.{ModuleTranslation}
 use Rattle.dwc_base.specs.Translations.{translation_sections}
 use Rattle.dwc_base.specs.TranslationNames.{told_file}
 use Rattle.dwc_native.specs.Functions.{Function, functions_of}
@@ -14,13 +14,13 @@ use Rattle.dwc_native.specs.Compiled.{LinkageNames, ToldModule}
 use Rattle.dwc_carried.specs.Forests.{first_refusal, function_refusals, module_refusals}
 use Rattle.dwc_base.specs.Listing.{first_of}
 use Rattle.dwc_carried.specs.UnitPaths.{next_id_behind}
-use Rattle.dwc_clif.specs.AddressMaps.{address_map_view}
-use Rattle.dwc_clif.specs.Registers.{Registers}
-use Rattle.dwc_addr.specs.declared.memory_offset.ModuleMemoryOffset.{ModuleMemoryOffset}
+use Rattle.dwc_compiled.specs.AddressMaps.{address_map_view}
+use Rattle.dwc_isa.specs.Registers.{Registers}
+use Rattle.dwc_isa.specs.declared.memory_offset.ModuleMemoryOffset.{ModuleMemoryOffset}
 use Rattle.dwc_addr.specs.Numbers.{Compiled}
 use Rattle.dwc_addr.specs.Compilations.{CompilationValue}
 use Rattle.dwc_addr.specs.Transforms.{first_bad_map}
-use Rattle.dwc_clone.specs.CompiledModules.{told_module}
+use Rattle.dwc_source.specs.CompiledModules.{told_module}
 use Rattle.dwc_carry.specs.Refusals.{InputRefusal, bad_address_map, in_reading}
 
 -- what is told of the modules from a place on beside their sections and address maps, whose functions are numbered over all of them from
@@ -55,7 +55,7 @@ names_of c = record { set_memory = c.set_memory; resolve_memory = c.resolve_memo
 abbrev pub modules_of : Registers → CompilationValue → List Module
 modules_of registers c = modules_from 0 c.translations c.functions (told_from registers (names_of c) 0 0 c.functions c.memory_offsets)
 
--- A compilation behind the path of its last unit: the number of the next generated name has risen where one was made.
+-- A compilation behind the path of its simulated unit: the number of the next generated name has risen where one was made.
 abbrev pub counted_behind : Registers → CompilationValue → CompilationValue
 counted_behind registers c = record c { next_id = next_id_behind c.next_id (modules_of registers c) }
 
@@ -77,8 +77,8 @@ bad_map c = bad_map_from 0 c.translations c.functions
 abbrev pub maps_refusal : CompilationValue → Option InputRefusal
 maps_refusal c = option_map (λ bad. bad_address_map bad.0 bad.1.0 bad.1.1) (bad_map c)
 
--- What is refused of a compilation before the path of its last unit is made: its address maps, functions that are too long, or something of
--- a module.
+-- What is refused of a compilation before the path of its simulated unit is made: its address maps, functions that are too long, or
+-- something of a module.
 abbrev pub refused_before_path : Registers → CompilationValue → Option InputRefusal
 refused_before_path registers c =
     option_or (maps_refusal c) (option_map in_reading (first_of (flat_map (λ m. function_refusals m.functions) (modules_of registers c) ++ flat_map module_refusals (modules_of registers c))))

@@ -2,11 +2,11 @@
 use Rattle.std.specs.Prelude.{◌≡◌, ℕ, ◌<◌, List, length, slice_index_or, Option, Some, None}
 use Rattle.dwc_base.specs.Sections.{Sections}
 use Rattle.dwc_native.specs.Functions.{Function}
-use Rattle.dwc_write.specs.declared.units.UnitId.{UnitId}
-use Rattle.dwc_write.specs.GivenUnits.{GivenUnit}
+use Rattle.dwc_unit.specs.declared.units.UnitId.{UnitId}
+use Rattle.dwc_unit.specs.GivenUnits.{GivenUnit}
 use Rattle.dwc_carry.specs.UnitPrograms.{CarriesTableAt}
 use Rattle.dwc_carry.specs.declared.last_lines.LastLines.{LastLines}
-use Rattle.dwc_clone.specs.declared.files.UnitFiles.{UnitFiles}
+use Rattle.dwc_source.specs.declared.files.UnitFiles.{UnitFiles}
 
 -- The line program of its unit among those of the output, all of one address size, carries the table at its offset.
 pub record IsCarriedIn (fs : List Function) (size : ℕ) (s : Sections) (us : List GivenUnit) (last : LastLines) : Type 0 where

@@ -1,6 +1,6 @@
 -- The types of the locals of a function, in groups that are told by where they end. (WebAssembly 1.0, section 2.5.3.)
 use Rattle.std.specs.Prelude.{ℕ, ◌-◌, List, [], ◌∷◌}
-use Rattle.dwc_base.specs.declared.wasm.ValType.{ValType}
+use Rattle.dwc_base.specs.declared.translation.ValType.{ValType}
 use Rattle.dwc_base.specs.WasmFunctions.{LocalTypes}
 use Rattle.dwc_carry.specs.declared.local_types.LocalGroup.{LocalGroup}
 

@@ -3,11 +3,11 @@ use Rattle.std.specs.Prelude.{◌≡◌, ℕ, ◌<◌, suc, List, [], ◌∷◌,
 use Rattle.std.specs.List.{position_or_len}
 use Rattle.std.specs.Str.{bytes_eq}
 use Rattle.dwc_dwarf.specs.TreeLaws.{with_new_text}
-use Rattle.dwc_write.specs.declared.attributes.AttributeValue.{AttributeValue}
-use Rattle.dwc_write.specs.declared.attributes.AttributeValue.TheVariants as write
-use Rattle.dwc_write.specs.declared.strings.StringId.{StringId}
-use Rattle.dwc_write.specs.GivenUnits.{Addition, GivenUnit, constant_bound, is_constant_form, places_from, set_attribute, with_value}
-use Rattle.dwc_write.specs.AddedInOrder.{with_entry}
+use Rattle.dwc_unit.specs.declared.attributes.AttributeValue.{AttributeValue}
+use Rattle.dwc_unit.specs.declared.attributes.AttributeValue.TheVariants as write
+use Rattle.dwc_unit.specs.declared.strings.StringId.{StringId}
+use Rattle.dwc_unit.specs.GivenUnits.{Addition, GivenUnit, constant_bound, is_constant_form, places_from, set_attribute, with_value}
+use Rattle.dwc_unit.specs.AddedInOrder.{with_entry}
 use Rattle.dwc_carry.specs.declared.made_entries.MadeEntry.{MadeEntry}
 use Rattle.dwc_carry.specs.declared.made_entries.MadeValue.{MadeValue}
 use Rattle.dwc_carry.specs.declared.made_entries.MadeValue.TheVariants.{Text, Constant, Flag, Entry}

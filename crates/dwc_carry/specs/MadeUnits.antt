@@ -4,20 +4,20 @@ use Rattle.std.specs.List.{filter, AllZip}
 use Rattle.dwc_dwarf.specs.LineHeaders.{LineFile}
 use Rattle.dwc_dwarf.specs.LineRows.{LineTable}
 use Rattle.dwc_native.specs.Images.{is_carried_segment, IsImageOf}
-use Rattle.dwc_rules.specs.Carried.{CarriedUnit, WantedUnit, own_unit, carried_unit, listed_unit}
+use Rattle.dwc_rules.specs.Carried.{CarriedUnit, WantedUnit, synthetic_unit, carried_unit, unit_of_simulated}
 use Rattle.dwc_dwarf.specs.ReadUnits.{table_of_unit, segments_of}
 use Rattle.dwc_native.specs.Functions.{Function}
 use Rattle.dwc_output.specs.SimulatedLines.{IsSimulated}
-use Rattle.dwc_carried.specs.LastUnit.{listed_in_files, widest_listed}
+use Rattle.dwc_carried.specs.SimulatedUnitRules.{simulated_in_files, widest_simulated_lines}
 use Rattle.dwc_carried.specs.OutputCarried.{widest_lines_of}
 use Rattle.dwc_dwarf.specs.Trees.{Tree}
-use Rattle.dwc_write.specs.AddedInOrder.{IsInOrder, tree_meant}
-use Rattle.dwc_write.specs.Renumbered.{renumbered_entry, LeadsToEntries}
-use Rattle.dwc_write.specs.GivenLines.{GivenLines, no_lines}
-use Rattle.dwc_write.specs.GivenUnits.{GivenUnit, IsWritable, ordered, place_of}
-use Rattle.dwc_write.specs.ReadBack.{given_segments}
-use Rattle.dwc_write.specs.UsedTexts.{texts_of_attributes}
-use Rattle.dwc_write.specs.WidestGiven.{widest_table_for}
+use Rattle.dwc_unit.specs.AddedInOrder.{IsInOrder, tree_meant}
+use Rattle.dwc_unit.specs.Renumbered.{renumbered_entry, LeadsToEntries}
+use Rattle.dwc_unit.specs.GivenLines.{GivenLines, no_lines}
+use Rattle.dwc_unit.specs.GivenUnits.{GivenUnit, IsWritable, ordered, place_of}
+use Rattle.dwc_unit.specs.GivenSegments.{given_segments}
+use Rattle.dwc_unit.specs.UsedTexts.{texts_of_attributes}
+use Rattle.dwc_unit.specs.WidestGiven.{widest_table_for}
 
 -- A line program, of an address size, has some directories and files.
 pub record HasNames (names : List (List ℕ)) (fs : List LineFile) (g : GivenLines) : Type 0 where
@@ -41,18 +41,18 @@ pub record HasLinesOf (c : CarriedUnit) (u : GivenUnit) : Type 0 where
   pub images : AllZip (IsImageOf c.module_of.functions) (filter (is_carried_segment c.module_of.functions) (segments_of table)) (given_segments u.lines)
   pub widest : widest_table_for u.lines.address_size u.lines ≤ widest_lines_of c
 
--- The line program of a unit to be written has, in order, a segment for each of some functions, each with the offset of its own file's code,
--- over one file of a name, in the compilation directory, and is no longer, at its widest, than what is allowed for them.
-pub record HasListedLines (name : List ℕ) (fs : List (ℕ × Function)) (u : GivenUnit) : Type 0 where
+-- The line program of a unit to be written has, in order, a segment for each of some functions, each with the offset of its own file's
+-- code, over one file of a name, in the compilation directory, and is no longer, at its widest, than what is allowed for them.
+pub record HasSimulatedLines (name : List ℕ) (fs : List (ℕ × Function)) (u : GivenUnit) : Type 0 where
   pub names : HasNames [] (record { directory = 0; name = name } ∷ []) u.lines
   pub segments : AllZip (λ f segment. IsSimulated name f.0 f.1 segment) fs (given_segments u.lines)
-  pub widest : widest_table_for u.lines.address_size u.lines ≤ widest_listed name fs
+  pub widest : widest_table_for u.lines.address_size u.lines ≤ widest_simulated_lines name fs
 
--- the lines that a unit is to have; a module's own has no line program
+-- the lines that a unit is to have; a synthetic one has no line program
 abbrev pub HasWantedLines : WantedUnit → GivenUnit → Type 0
-HasWantedLines own_unit u = u.lines ≡ no_lines None
+HasWantedLines synthetic_unit u = u.lines ≡ no_lines None
 HasWantedLines (carried_unit c) u = HasLinesOf c u
-HasWantedLines (listed_unit name translated ms) u = HasListedLines name (listed_in_files translated ms) u
+HasWantedLines (unit_of_simulated name translated ms) u = HasSimulatedLines name (simulated_in_files translated ms) u
 
 -- Each number of some units, of which the first has a number, that has a place there leads to it.
 abbrev pub LeadsTo : (ℕ → ℕ → Option (ℕ × ℕ)) → ℕ → List GivenUnit → Type 0

@@ -7,8 +7,8 @@ use Rattle.dwc_kept.specs.declared.read_unit.ReadUnit.{ReadUnit}
 use Rattle.dwc_kept.specs.declared.kept_units.KeptModule.{KeptModule}
 use Rattle.dwc_kept.specs.ReadUnits.{IsKeptModule}
 use Rattle.dwc_kept.specs.KeptUnits.{is_in_unit}
-use Rattle.dwc_clone.specs.declared.places.EmittedEntry.{EmittedEntry}
-use Rattle.dwc_clone.specs.OutputPlaces.{numbered}
+use Rattle.dwc_source.specs.declared.places.EmittedEntry.{EmittedEntry}
+use Rattle.dwc_source.specs.OutputPlaces.{numbered}
 
 -- the offsets of the kept entries of a unit, where it is a compile unit
 abbrev pub carried_offsets : List ℕ → ReadUnit → List ℕ

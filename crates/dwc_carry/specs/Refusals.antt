@@ -12,10 +12,10 @@ use Rattle.dwc_addr.specs.declared.error.AddrError.{AddrError}
 use Rattle.dwc_addr.specs.declared.error.AddrError.TheVariants as addr
 use Rattle.dwc_tabs.specs.declared.fault.TabFault.{TabFault}
 use Rattle.dwc_tabs.specs.declared.fault.TabFault.TheVariants as tab
-use Rattle.dwc_write.specs.declared.error.WriteError.{WriteError}
-use Rattle.dwc_write.specs.declared.error.WriteError.TheVariants as write
-use Rattle.dwc_clone.specs.declared.error.CloneError.{CloneError}
-use Rattle.dwc_clone.specs.declared.error.CloneError.TheVariants as clone
+use Rattle.dwc_section.specs.declared.error.WriteError.{WriteError}
+use Rattle.dwc_section.specs.declared.error.WriteError.TheVariants as write
+use Rattle.dwc_source.specs.declared.error.CloneError.{CloneError}
+use Rattle.dwc_source.specs.declared.error.CloneError.TheVariants as clone
 use Rattle.dwc_carry.specs.declared.error.DebugError.{DebugError}
 use Rattle.dwc_carry.specs.declared.error.DebugError.TheVariants.{Read, Unsupported, InvalidFileIndex, BadAddressMap, BadLabelRange, InvalidAttributeValue, UnmappedRegister, Path, InvalidFrameCodeOffset, InvalidFrameDataOffset, TooLarge, OutOfMemory}
 

@@ -4,7 +4,7 @@ use Rattle.dwc_base.specs.Listing.{Listing}
 use Rattle.dwc_base.specs.Sections.{Fault}
 use Rattle.dwc_dwarf.specs.Entries.{Entry}
 use Rattle.dwc_rules.specs.Refusals.{of_place}
-use Rattle.dwc_rules.specs.Targets.{entry_listed, place_of_fault, fault_up_to}
+use Rattle.dwc_rules.specs.Targets.{entry_in_listing, place_of_fault, fault_up_to}
 use Rattle.dwc_read.specs.declared.fault.ReadFault.{ReadFault}
 use Rattle.dwc_read.specs.Faults.{fault_seen}
 use Rattle.dwc_carry.specs.declared.error.DebugError.{DebugError}
@@ -22,13 +22,13 @@ GivesRead view read result = ReadsOr (λ x. read ≡ Ok (view x)) (option_map of
 -- A fault that ends the entries says what begins at a place; want of memory says nothing.
 abbrev pub EndsSearch : ℕ → Listing Fault Entry → Option Fault → Type 0
 EndsSearch place list None = Unit {0}
-EndsSearch place list (Some fault) = entry_listed place list ≡ fault_up_to place (Some fault)
+EndsSearch place list (Some fault) = entry_in_listing place list ≡ fault_up_to place (Some fault)
 
 -- A call that goes on to the entry of a listing that begins at a place: whether there is one, which is then the current one; or the fault
 -- that the entries up to the place end with.
 abbrev pub GoesTo : ℕ → Listing Fault Entry → Entry → Result Bool ReadFault → Type 0
-GoesTo place list current (Ok true) = entry_listed place list ≡ Ok (Some current)
-GoesTo place list current (Ok false) = entry_listed place list ≡ Ok None
+GoesTo place list current (Ok true) = entry_in_listing place list ≡ Ok (Some current)
+GoesTo place list current (Ok false) = entry_in_listing place list ≡ Ok None
 GoesTo place list current (Err e) = EndsSearch place list (fault_seen e)
 
 -- whether a fault stands behind a place

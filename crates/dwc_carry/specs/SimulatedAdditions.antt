@@ -5,21 +5,21 @@ use Rattle.dwc_base.specs.declared.constants.TheConstants.{DW_AT_byte_size, DW_A
 use Rattle.dwc_base.specs.declared.records.Address.TheVariants.{Symbol}
 use Rattle.dwc_carried.specs.UnitPaths.{path_directory, path_name}
 use Rattle.dwc_clone.specs.GivenAttributes.{Attribute}
-use Rattle.dwc_write.specs.declared.attributes.AttributeValue.TheVariants as write
-use Rattle.dwc_write.specs.declared.attributes.DebugInfoRef.{DebugInfoRef}
-use Rattle.dwc_write.specs.LocationLists.{LocationList}
-use Rattle.dwc_write.specs.declared.lists.RangeList.{RangeList}
-use Rattle.dwc_write.specs.declared.strings.StringId.{StringId}
-use Rattle.dwc_write.specs.GivenLines.{GivenLines}
-use Rattle.dwc_write.specs.GivenUnits.{Addition, GivenUnit}
+use Rattle.dwc_unit.specs.declared.attributes.AttributeValue.TheVariants as write
+use Rattle.dwc_unit.specs.declared.attributes.DebugInfoRef.{DebugInfoRef}
+use Rattle.dwc_unit.specs.LocationLists.{LocationList}
+use Rattle.dwc_unit.specs.declared.lists.RangeList.{RangeList}
+use Rattle.dwc_unit.specs.declared.strings.StringId.{StringId}
+use Rattle.dwc_unit.specs.GivenLines.{GivenLines}
+use Rattle.dwc_unit.specs.GivenUnits.{Addition, GivenUnit}
 use Rattle.dwc_carry.specs.declared.simulated_entries.TypeTexts.{TypeTexts}
 use Rattle.dwc_carry.specs.declared.simulated_root.RootTexts.{RootTexts}
-use Rattle.dwc_carry.specs.OwnAdditions.{below, numbered, texted, typed}
+use Rattle.dwc_carry.specs.SyntheticAdditions.{below, numbered, texted, typed}
 
 -- ---- attributes
 
-abbrev pub located : LocationList → Attribute
-located list = record { name = DW_AT_location; value = write.LocationListRef list }
+abbrev pub location_attribute : LocationList → Attribute
+location_attribute list = record { name = DW_AT_location; value = write.LocationListRef list }
 
 -- ---- the root
 
@@ -74,9 +74,9 @@ subprogram_addition name symbol size line =
 
 -- a parameter or a variable of a function at a place, whose type is at another
 abbrev pub local_addition : ℕ → ℕ → StringId → ℕ → LocationList → Addition
-local_addition parent tag name type list = below parent tag (texted DW_AT_name name ∷ typed type ∷ located list ∷ [])
+local_addition parent tag name type list = below parent tag (texted DW_AT_name name ∷ typed type ∷ location_attribute list ∷ [])
 
 -- the variable of the context
 abbrev pub context_addition : ℕ → StringId → DebugInfoRef → LocationList → Addition
 context_addition parent name type list =
-    below parent DW_TAG_variable (texted DW_AT_name name ∷ record { name = DW_AT_type; value = write.DebugInfoRef type } ∷ located list ∷ [])
+    below parent DW_TAG_variable (texted DW_AT_name name ∷ record { name = DW_AT_type; value = write.DebugInfoRef type } ∷ location_attribute list ∷ [])

@@ -5,13 +5,13 @@ use Rattle.dwc_rules.specs.Carried.{Module}
 use Rattle.dwc_carried.specs.DefinedFunctions.{DefinedFunction}
 use Rattle.dwc_rules.specs.Drafts.{Draft}
 use Rattle.dwc_rules.specs.DraftForests.{settled_entry}
-use Rattle.dwc_rules.specs.OwnUnits.{place_of_context_pointer}
+use Rattle.dwc_rules.specs.SyntheticUnit.{place_of_context_pointer}
 use Rattle.dwc_carried.specs.SimulatedUnit.{function_entries, label_entry, modules_entries, unit_count}
 use Rattle.dwc_dwarf.specs.Trees.{TreeValue}
-use Rattle.dwc_write.specs.AddedInOrder.{entry_meant}
-use Rattle.dwc_write.specs.GivenLines.{GivenLines}
-use Rattle.dwc_write.specs.GivenUnits.{Addition, GivenUnit}
-use Rattle.dwc_write.specs.UsedTexts.{texts_of_attributes}
+use Rattle.dwc_unit.specs.AddedInOrder.{entry_meant}
+use Rattle.dwc_unit.specs.GivenLines.{GivenLines}
+use Rattle.dwc_unit.specs.GivenUnits.{Addition, GivenUnit}
+use Rattle.dwc_unit.specs.UsedTexts.{texts_of_attributes}
 use Rattle.dwc_clone.specs.BuiltUnits.{IsDrafted}
 use Rattle.dwc_clone.specs.ClonedEntries.{IsLastOf}
 use Rattle.dwc_clone.specs.ClonedUnits.{draft_depths}
@@ -41,7 +41,7 @@ pub record HasVariables (number : ℕ) (pointer : TreeValue) (m : Module) (d : D
   pub made : HasFunction number texts ds place u
   pub whole : ds ++ filter_map (label_entry number pointer m d) left ≡ before ++ function_entries number pointer m d
 
--- A unit has the entries of some of the listed functions of a module, and those of others are left: with these, and what stands behind
+-- A unit has the entries of some of the simulated functions of a module, and those of others are left: with these, and what stands behind
 -- them, all is what it is to be.
 pub record HasFunctions (number : ℕ) (pointer : TreeValue) (m : Module) (texts : List (List ℕ)) (behind whole : List Draft) (left : List DefinedFunction) (u : GivenUnit) : Type 0 where
   pub ds : List Draft
@@ -65,7 +65,7 @@ pub record BeginsWith (size : ℕ) (lines : GivenLines) (root : Addition) (u : G
 
 -- ---- references
 
--- The pointers to the contexts of modules stay in the modules' own units, of which the first has a number.
+-- The pointers to the contexts of modules stay in the modules' synthetic units, of which the first has a number.
 abbrev pub ContextsStay : (ℕ → ℕ → Option (ℕ × ℕ)) → ℕ → List Module → Type 0
-ContextsStay at own [] = Unit {0}
-ContextsStay at own (m ∷ ms) = (at own (place_of_context_pointer m.told.memory) ≡ Some (own, place_of_context_pointer m.told.memory)) × ContextsStay at (own + unit_count m) ms
+ContextsStay at synthetic [] = Unit {0}
+ContextsStay at synthetic (m ∷ ms) = (at synthetic (place_of_context_pointer m.told.memory) ≡ Some (synthetic, place_of_context_pointer m.told.memory)) × ContextsStay at (synthetic + unit_count m) ms

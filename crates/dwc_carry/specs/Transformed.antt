@@ -8,16 +8,16 @@ use Rattle.dwc_native.specs.Functions.{Function}
 use Rattle.dwc_native.specs.Addends.{is_long}
 use Rattle.dwc_rules.specs.Carried.{Compilation}
 use Rattle.dwc_dwarf.specs.ReadUnits.{units}
-use Rattle.dwc_clif.specs.Registers.{Registers}
+use Rattle.dwc_isa.specs.Registers.{Registers}
 use Rattle.dwc_addr.specs.declared.transform.AddressTransform.{AddressTransform}
 use Rattle.dwc_addr.specs.Compilations.{CompilationValue}
-use Rattle.dwc_write.specs.declared.units.Dwarf.{Dwarf}
+use Rattle.dwc_unit.specs.declared.units.Dwarf.{Dwarf}
 use Rattle.dwc_carried.specs.Forests.{wanted_units, trees_made, forest}
 use Rattle.dwc_dwarf.specs.TreeLaws.{HasAllTargets}
-use Rattle.dwc_write.specs.UsedTexts.{HaveTexts}
-use Rattle.dwc_write.specs.GivenTrees.{given_trees}
-use Rattle.dwc_write.specs.Renumbered.{place_at}
-use Rattle.dwc_write.specs.GivenUnits.{GivenUnit, ordered}
+use Rattle.dwc_unit.specs.UsedTexts.{HaveTexts}
+use Rattle.dwc_unit.specs.GivenTrees.{given_trees}
+use Rattle.dwc_unit.specs.Renumbered.{place_at}
+use Rattle.dwc_unit.specs.GivenUnits.{GivenUnit, ordered}
 use Rattle.dwc_carry.specs.declared.error.DebugError.{DebugError}
 use Rattle.dwc_carry.specs.declared.error.DebugError.TheVariants.{TooLarge}
 use Rattle.dwc_carry.specs.Refusals.{GivesOr}

@@ -5,7 +5,7 @@ use Rattle.std.specs.Global.{Vec}
 use Rattle.dwc_rules.specs.Carried.{Module}
 use Rattle.dwc_base.specs.TranslationNames.{told_file}
 use Rattle.dwc_carried.specs.UnitPaths.{named_path, unit_path}
-use Rattle.dwc_base.specs.declared.wasm.ModuleTranslation.{ModuleTranslation}
+use Rattle.dwc_base.specs.declared.translation.ModuleTranslation.{ModuleTranslation}
 use Rattle.dwc_carry.specs.declared.unit_path.UnitPath.{UnitPath}
 
 -- It is the path that names each module of a translation's file.

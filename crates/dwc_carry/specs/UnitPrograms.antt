@@ -7,11 +7,11 @@ use Rattle.dwc_native.specs.Functions.{Function}
 use Rattle.dwc_dwarf.specs.LineRows.{LineTable, line_table}
 use Rattle.dwc_dwarf.specs.LineFiles.{has_all_files}
 use Rattle.dwc_rules.specs.Refusals.{lines_refusal}
-use Rattle.dwc_write.specs.GivenLines.{GivenLines, no_lines}
-use Rattle.dwc_write.specs.GivenUnits.{new_unit}
+use Rattle.dwc_unit.specs.GivenLines.{GivenLines, no_lines}
+use Rattle.dwc_unit.specs.GivenUnits.{new_unit}
 use Rattle.dwc_image.specs.CarriedLines.{CarriesTable}
-use Rattle.dwc_clone.specs.declared.files.UnitFiles.{UnitFiles}
-use Rattle.dwc_clone.specs.Sources.{AreFiles}
+use Rattle.dwc_source.specs.declared.files.UnitFiles.{UnitFiles}
+use Rattle.dwc_source.specs.Sources.{AreFiles}
 use Rattle.dwc_carry.specs.declared.begun_unit.BegunUnit.{BegunUnit}
 use Rattle.dwc_carry.specs.declared.error.DebugError.{DebugError}
 use Rattle.dwc_carry.specs.Refusals.{ReadsOr}

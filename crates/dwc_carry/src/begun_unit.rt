@@ -8,11 +8,11 @@ use crate::DebugError;
 use crate::last_lines::LastLines;
 use dwc_addr::AddressTransform;
 use dwc_base::{Encoding, SectionName};
-use dwc_clone::UnitFiles;
 use dwc_image::{carried_lines, carried_open_lines};
 use dwc_kept::ReadUnit;
+use dwc_source::UnitFiles;
 use dwc_tabs::{LineTable, OpenTable};
-use dwc_write::{LineProgram, Unit, UnitTable};
+use dwc_unit::{LineProgram, Unit, UnitTable};
 use std::alloc::Global;
 
 /// A new unit of the output, and the files that its entries name.

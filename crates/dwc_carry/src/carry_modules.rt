@@ -2,14 +2,14 @@
 ghost use Rattle.std.specs.Prelude.{◌≡◌, ◌⊎◌, ◌<◌, ℕ, suc, length, All, OnOk};
 ghost use Rattle.dwc_base.specs.declared.section_name.SectionName.TheVariants.{Info};
 ghost use Rattle.dwc_native.specs.Addends.{HaveAddends};
-ghost use Rattle.dwc_carried.specs.ListedFunctions.{begun_in_module};
+ghost use Rattle.dwc_carried.specs.SimulatedFunctions.{begun_in_module};
 ghost use Rattle.dwc_base.specs.Translations.{translation_sections};
 ghost use Rattle.dwc_image.specs.CarriedLines.{AreKept};
-ghost use Rattle.dwc_write.specs.TextTables.{IsText};
+ghost use Rattle.dwc_unit.specs.TextTables.{IsText};
 ghost use Rattle.dwc_clone.specs.BegunNumbers.{NotesFunctions};
-ghost use Rattle.dwc_clone.specs.CompiledModules.{told_by, HasFrames};
+ghost use Rattle.dwc_source.specs.CompiledModules.{told_by, HasFrames};
 ghost use Rattle.dwc_carry.specs.CarriedModules.{transformed_module, GivesCarried, GivesModules};
-ghost use Rattle.dwc_carry.specs.OwnUnits.{ReferToOwn};
+ghost use Rattle.dwc_carry.specs.SyntheticUnits.{ReferToSynthetic};
 ghost use Rattle.dwc_carry.specs.Inputs.{functions_from, modules_of};
 
 use crate::carry_units::carry_units;
@@ -19,11 +19,11 @@ use crate::output_form::OutputForm;
 use crate::{DebugError, ModuleSyntheticUnit};
 use dwc_addr::{AddressTransform, Compilation};
 use dwc_base::{Kind, ModuleTranslation, SectionName, StaticModuleIndex};
-use dwc_clif::TargetIsa;
-use dwc_clone::CompiledModule;
+use dwc_isa::TargetIsa;
 use dwc_kept::kept_module;
 use dwc_read::Sections;
-use dwc_write::{DebugInfoRef, Dwarf};
+use dwc_source::CompiledModule;
+use dwc_unit::{DebugInfoRef, Dwarf};
 use std::alloc::Global;
 use std::collections::BTreeSet;
 use std::vec::Vec;
@@ -46,7 +46,7 @@ fn carry_module(
     translation: &ModuleTranslation<'_>,
     transform: &AddressTransform<'_>,
     compiled: &CompiledModule<'_>,
-    own: &ModuleSyntheticUnit,
+    synthetic: &ModuleSyntheticUnit,
     form: OutputForm,
     dwarf: &mut Dwarf,
     translated: &mut BTreeSet<usize>,
@@ -58,9 +58,9 @@ fn carry_module(
     requires frames { HasFrames compiled.now transform.now }
     requires names { IsText compiled.now.names.resolve_memory.now }
     requires behind { 0 < length dwarf.old.units.units.items }
-    requires own { (number : ℕ) → length dwarf.old.units.units.items ≡ suc number → ReferToOwn number (told_by (dwarf_registers isa.now) compiled.now).memory own.now.vmctx_ptr own.now.wasm_ptr }
+    requires synthetic { (number : ℕ) → length dwarf.old.units.units.items ≡ suc number → ReferToSynthetic number (told_by (dwarf_registers isa.now) compiled.now).memory synthetic.now.vmctx_ptr synthetic.now.wasm_ptr }
     ensures noted { OnOk result (NotesFunctions (begun_in_module (transformed_module translation.now transform.now (told_by (dwarf_registers isa.now) compiled.now))) translated.old translated.new) }
-    ensures added { (own : ℕ) → length dwarf.old.units.units.items ≡ suc own → GivesCarried form.encoding.address_size form.big_endian (transformed_module translation.now transform.now (told_by (dwarf_registers isa.now) compiled.now)) own dwarf.old dwarf.new result }
+    ensures added { (synthetic : ℕ) → length dwarf.old.units.units.items ≡ suc synthetic → GivesCarried form.encoding.address_size form.big_endian (transformed_module translation.now transform.now (told_by (dwarf_registers isa.now) compiled.now)) synthetic dwarf.old dwarf.new result }
 {
     if let Some(offset) = translation.compressed {
         return Err(DebugError::Unsupported {
@@ -71,7 +71,7 @@ fn carry_module(
     let module = kept_module(alloc, sections_of(translation), transform)?;
     let places = module_places(alloc, &module, dwarf.units.len())?;
     carry_units(
-        alloc, isa, &module, &places, transform, compiled, own, form, dwarf, translated,
+        alloc, isa, &module, &places, transform, compiled, synthetic, form, dwarf, translated,
     )
 }
 
@@ -112,7 +112,7 @@ pub(crate) fn carry_modules(
         let compiled = compiled_module(compilation, module);
         let translation = &translations[i];
         let transform = &transforms[i];
-        let own = ModuleSyntheticUnit::new(
+        let synthetic = ModuleSyntheticUnit::new(
             alloc,
             module,
             compilation,
@@ -126,12 +126,12 @@ pub(crate) fn carry_modules(
             translation,
             transform,
             &compiled,
-            &own,
+            &synthetic,
             form,
             dwarf,
             &mut translated,
         )?;
-        vmctx_ptrs.push(own.vmctx_ptr_die_ref())?;
+        vmctx_ptrs.push(synthetic.vmctx_ptr_die_ref())?;
     }
     Ok(CarriedModules {
         translated,

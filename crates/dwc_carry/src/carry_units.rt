@@ -2,19 +2,19 @@
 ghost use Rattle.std.specs.Prelude.{◌≡◌, ◌<◌, ◌⊎◌, ℕ, suc, length, All, OnOk};
 ghost use Rattle.dwc_native.specs.Addends.{HaveAddends};
 ghost use Rattle.dwc_rules.specs.Carried.{Module};
-ghost use Rattle.dwc_carried.specs.ListedFunctions.{begun_functions, begun_in_module};
+ghost use Rattle.dwc_carried.specs.SimulatedFunctions.{begun_functions, begun_in_module};
 ghost use Rattle.dwc_dwarf.specs.Entries.{entries as entries_of};
 ghost use Rattle.dwc_dwarf.specs.ReadValues.{IsReadEntry};
 ghost use Rattle.dwc_kept.specs.declared.kept_units.KeptModule.{KeptModule as KeptModuleValue};
 ghost use Rattle.dwc_kept.specs.ReadUnits.{unit_read};
 ghost use Rattle.dwc_image.specs.CarriedLines.{AreKept};
-ghost use Rattle.dwc_write.specs.TextTables.{IsText};
+ghost use Rattle.dwc_unit.specs.TextTables.{IsText};
 ghost use Rattle.dwc_clone.specs.BegunNumbers.{NotesFunctions};
-ghost use Rattle.dwc_clone.specs.CompiledModules.{told_by, HasFrames};
-ghost use Rattle.dwc_clone.specs.KnownTexts.{KnowsTexts};
+ghost use Rattle.dwc_source.specs.CompiledModules.{told_by, HasFrames};
+ghost use Rattle.dwc_source.specs.KnownTexts.{KnowsTexts};
 ghost use Rattle.dwc_carry.specs.LastLines.{IsLast};
 ghost use Rattle.dwc_carry.specs.ModulePlaces.{emitted, numbered_lists};
-ghost use Rattle.dwc_carry.specs.OwnUnits.{ReferToOwn};
+ghost use Rattle.dwc_carry.specs.SyntheticUnits.{ReferToSynthetic};
 ghost use Rattle.dwc_carry.specs.CarriedUnits.{IsOfModule, HasModule, IsUnitOf, GivesUnit, GivesUnits};
 
 use crate::begun_unit::{BegunUnit, begun_unit};
@@ -23,10 +23,11 @@ use crate::module_places::carried_entries;
 use crate::output_form::OutputForm;
 use crate::{DebugError, ModuleSyntheticUnit};
 use dwc_addr::AddressTransform;
-use dwc_clif::TargetIsa;
-use dwc_clone::{CloneSource, CompiledModule, KnownTexts, Places, clone_unit};
+use dwc_clone::clone_unit;
+use dwc_isa::TargetIsa;
 use dwc_kept::{KeptModule, ReadUnit};
-use dwc_write::Dwarf;
+use dwc_source::{CloneSource, CompiledModule, KnownTexts, Places};
+use dwc_unit::Dwarf;
 use std::alloc::Global;
 use std::collections::BTreeSet;
 
@@ -42,7 +43,7 @@ fn carry_unit(
     last: Option<LastLines>,
     transform: &AddressTransform<'_>,
     compiled: &CompiledModule<'_>,
-    own: &ModuleSyntheticUnit,
+    synthetic: &ModuleSyntheticUnit,
     form: OutputForm,
     dwarf: &mut Dwarf,
     known: &mut KnownTexts,
@@ -59,7 +60,7 @@ fn carry_unit(
     requires texts { KnowsTexts read.now.unit.sections dwarf.old.strings known.old }
     ensures texts { KnowsTexts read.now.unit.sections dwarf.new.strings known.new }
     ensures noted { (c : Module) (m : KeptModuleValue) (first : ℕ) → IsUnitOf c transform.now (told_by (dwarf_registers isa.now) compiled.now) m first (length dwarf.old.units.units.items) places.now kept.now read.now → OnOk result (NotesFunctions (begun_functions (record { module_of = c; unit = unit_read c.sections read.now.unit.header })) translated.old translated.new) }
-    ensures added { (c : Module) (m : KeptModuleValue) (first : ℕ) → IsUnitOf c transform.now (told_by (dwarf_registers isa.now) compiled.now) m first (length dwarf.old.units.units.items) places.now kept.now read.now → ReferToOwn first c.told.memory own.now.vmctx_ptr own.now.wasm_ptr → GivesUnit form.encoding.address_size form.big_endian c first places.now (unit_read c.sections read.now.unit.header) dwarf.old dwarf.new result }
+    ensures added { (c : Module) (m : KeptModuleValue) (first : ℕ) → IsUnitOf c transform.now (told_by (dwarf_registers isa.now) compiled.now) m first (length dwarf.old.units.units.items) places.now kept.now read.now → ReferToSynthetic first c.told.memory synthetic.now.vmctx_ptr synthetic.now.wasm_ptr → GivesUnit form.encoding.address_size form.big_endian c first places.now (unit_read c.sections read.now.unit.header) dwarf.old dwarf.new result }
 {
     let BegunUnit { unit, files } = begun_unit(
         alloc,
@@ -74,8 +75,8 @@ fn carry_unit(
         transform,
         module: *compiled,
         places,
-        vmctx_ptr: own.vmctx_ptr_die_ref(),
-        wasm_ptr: own.wasm_ptr_die_ref(),
+        vmctx_ptr: synthetic.vmctx_ptr_die_ref(),
+        wasm_ptr: synthetic.wasm_ptr_die_ref(),
         files,
         big_endian: form.big_endian,
     };
@@ -107,7 +108,7 @@ pub(crate) fn carry_units(
     places: &Places,
     transform: &AddressTransform<'_>,
     compiled: &CompiledModule<'_>,
-    own: &ModuleSyntheticUnit,
+    synthetic: &ModuleSyntheticUnit,
     form: OutputForm,
     dwarf: &mut Dwarf,
     translated: &mut BTreeSet<usize>,
@@ -120,10 +121,10 @@ pub(crate) fn carry_units(
     requires names { IsText compiled.now.names.resolve_memory.now }
     requires read { HasModule transform.now (told_by (dwarf_registers isa.now) compiled.now) read_module.now }
     requires behind { 0 < length dwarf.old.units.units.items }
-    requires own { (number : ℕ) → length dwarf.old.units.units.items ≡ suc number → ReferToOwn number (told_by (dwarf_registers isa.now) compiled.now).memory own.now.vmctx_ptr own.now.wasm_ptr }
+    requires synthetic { (number : ℕ) → length dwarf.old.units.units.items ≡ suc number → ReferToSynthetic number (told_by (dwarf_registers isa.now) compiled.now).memory synthetic.now.vmctx_ptr synthetic.now.wasm_ptr }
     requires places { places.now ≡ numbered_lists (length dwarf.old.units.units.items) (emitted read_module.now.kept read_module.now.units.items) }
     ensures noted { (c : Module) → IsOfModule c transform.now (told_by (dwarf_registers isa.now) compiled.now) read_module.now → OnOk result (NotesFunctions (begun_in_module c) translated.old translated.new) }
-    ensures added { (c : Module) (own : ℕ) → length dwarf.old.units.units.items ≡ suc own → IsOfModule c transform.now (told_by (dwarf_registers isa.now) compiled.now) read_module.now → GivesUnits form.encoding.address_size form.big_endian c own dwarf.old dwarf.new result }
+    ensures added { (c : Module) (synthetic : ℕ) → length dwarf.old.units.units.items ≡ suc synthetic → IsOfModule c transform.now (told_by (dwarf_registers isa.now) compiled.now) read_module.now → GivesUnits form.encoding.address_size form.big_endian c synthetic dwarf.old dwarf.new result }
 {
     let mut last = None;
     let mut known = KnownTexts::new(alloc);
@@ -132,7 +133,7 @@ pub(crate) fn carry_units(
         let kept = carried_entries(read_module, read);
         if kept.len() > 0 {
             last = carry_unit(
-                alloc, isa, read, kept, places, last, transform, compiled, own, form, dwarf,
+                alloc, isa, read, kept, places, last, transform, compiled, synthetic, form, dwarf,
                 &mut known, translated,
             )?;
         }

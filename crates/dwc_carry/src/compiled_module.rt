@@ -1,19 +1,19 @@
 //! What a code generator tells of a module of a compilation.
 ghost use Rattle.std.specs.Prelude.{◌≡◌, ◌<◌, ℕ, length, map, slice_get, Some};
 ghost use Rattle.dwc_native.specs.Functions.{functions_of};
-ghost use Rattle.dwc_clif.specs.AddressMaps.{address_map_view};
-ghost use Rattle.dwc_clif.specs.Registers.{Registers};
+ghost use Rattle.dwc_compiled.specs.AddressMaps.{address_map_view};
+ghost use Rattle.dwc_isa.specs.Registers.{Registers};
 ghost use Rattle.dwc_addr.specs.Numbers.{first_number};
 ghost use Rattle.dwc_addr.specs.Compilations.{functions_at};
-ghost use Rattle.dwc_expr.specs.Frames.{memory_view};
-ghost use Rattle.dwc_write.specs.TextTables.{IsText};
-ghost use Rattle.dwc_clone.specs.CompiledModules.{told_by, HasFrames};
+ghost use Rattle.dwc_isa.specs.ToldModules.{memory_view};
+ghost use Rattle.dwc_unit.specs.TextTables.{IsText};
+ghost use Rattle.dwc_source.specs.CompiledModules.{told_by, HasFrames};
 ghost use Rattle.dwc_carry.specs.Inputs.{names_of, told_from};
-ghost use Rattle.dwc_carry.specs.OwnUnits.{memory_at};
+ghost use Rattle.dwc_carry.specs.SyntheticUnits.{memory_at};
 
 use dwc_addr::Compilation;
 use dwc_base::StaticModuleIndex;
-use dwc_clone::CompiledModule;
+use dwc_source::CompiledModule;
 
 /// What the code generator tells of a module beside its address maps: its functions, the number of the first of them, where its
 /// memory is found, and the names of functions of the run time.

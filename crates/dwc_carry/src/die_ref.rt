@@ -1,6 +1,6 @@
 //! The entry that a reference goes to. (DWARF 4, section 7.5.4; DWARF 5, section 7.5.5.)
 ghost use Rattle.std.specs.Prelude.{◌≡◌, option_map};
-ghost use Rattle.dwc_rules.specs.Targets.{entry_listed, entry_begun_at, entry_resolved};
+ghost use Rattle.dwc_rules.specs.Targets.{entry_in_listing, entry_begun_at, entry_resolved};
 ghost use Rattle.dwc_read.specs.EntriesSeen.{entry_view};
 ghost use Rattle.dwc_read.specs.Faults.{GivesOrFault, fault_seen};
 ghost use Rattle.dwc_read.specs.ValuesSeen.{value_view};
@@ -36,8 +36,8 @@ fn is_behind(fault: &ReadFault, place: u128) -> bool
 }
 
 // The entry, of those that are still to come, that begins at a place.
-fn entry_listed<'d>(entries: Entries<'d>, place: u128) -> Result<Option<Entry<'d>>, ReadFault>
-    ensures { GivesOrFault (option_map entry_view) (entry_listed place entries.entry.left) result }
+fn entry_in_listing<'d>(entries: Entries<'d>, place: u128) -> Result<Option<Entry<'d>>, ReadFault>
+    ensures { GivesOrFault (option_map entry_view) (entry_in_listing place entries.entry.left) result }
 {
     let mut entries = entries;
     match go_to(&mut entries, place) {
@@ -56,7 +56,7 @@ fn entry_begun_at<'d>(
 ) -> Result<Option<Entry<'d>>, ReadFault>
     ensures { GivesOrFault (option_map entry_view) (entry_begun_at unit.now.sections unit.now.header place) result }
 {
-    entry_listed(unit.entries(alloc)?, place)
+    entry_in_listing(unit.entries(alloc)?, place)
 }
 
 /// The entry of its unit that a reference within the unit goes to, with its depth; None where no entry of the unit begins there, and for

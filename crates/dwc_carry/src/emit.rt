@@ -9,8 +9,10 @@ use crate::frames::frame_table;
 use crate::transform::transform_dwarf;
 use dwc_addr::{Compilation, translations_keep_scopes};
 use dwc_base::{DwarfSection, Endian};
-use dwc_clif::TargetIsa;
-use dwc_write::{Dwarf, FrameTable, write_sections};
+use dwc_frames::FrameTable;
+use dwc_isa::TargetIsa;
+use dwc_unit::Dwarf;
+use dwc_write::write_sections;
 use std::alloc::Global;
 
 /// The DWARF that the one of a compilation carries over to, before it is written: units with the texts that they name, the call frames of
@@ -88,7 +90,7 @@ pub fn carry_dwarf(
 /// `BadLabelRange`, `InvalidAttributeValue`, `UnmappedRegister` or `TooLarge` `Jump` for an expression that is built over its scope, or
 /// `TooLarge` `Vmctx` for a module whose memory is too far behind in its context,
 /// exactly where something is refused, for the first in the order of the work, module by module; then `Path` exactly where the path of the
-/// last unit names no file, and what is refused of the variables of its functions. Where nothing is: `InvalidFrameCodeOffset` or `InvalidFrameDataOffset` exactly where a function's frame description cannot be written, for the first. Where nothing is refused: `TooLarge` `Expression`
+/// simulated unit names no file, and what is refused of the variables of its functions. Where nothing is: `InvalidFrameCodeOffset` or `InvalidFrameDataOffset` exactly where a function's frame description cannot be written, for the first. Where nothing is refused: `TooLarge` `Expression`
 /// exactly where an expression of a location list has more than 65,535 bytes; else `TooLarge` `Section` only for a section that could be
 /// longer than 2^31 - 1 bytes, each of its numbers at its widest. `OutOfMemory` for want of memory.
 pub fn emit_dwarf(

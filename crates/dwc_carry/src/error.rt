@@ -3,11 +3,11 @@ ghost use Rattle.std.specs.Prelude.{◌≡◌};
 
 use dwc_addr::AddrError;
 use dwc_base::{Kind, Limit, MapFault, SectionName, What};
-use dwc_clif::{Reg, ValueLabel};
-use dwc_clone::CloneError;
+use dwc_isa::{Reg, ValueLabel};
 use dwc_read::ReadFault;
+use dwc_section::WriteError;
+use dwc_source::CloneError;
 use dwc_tabs::TabFault;
-use dwc_write::WriteError;
 use std::alloc::{AllocError, AllocFailed};
 use thiserror::Error;
 

@@ -2,17 +2,20 @@
 ghost use Rattle.std.specs.Prelude.{◌≡◌, ◌+◌, ◌++◌, ◌<◌, ◌^◌, length, option_map, IfOk, IfSome, IsOkUnless, OnOk, true};
 ghost use Rattle.dwc_native.specs.CallFrames.{is_sound_if};
 ghost use Rattle.dwc_addr.specs.Compilations.{IsCounted};
-ghost use Rattle.dwc_clif.specs.CallFrames.{description_of_metadata, description_view};
-ghost use Rattle.dwc_write.specs.Frames.{common_given};
-ghost use Rattle.dwc_write.specs.declared.error.WriteError.TheVariants as write;
+ghost use Rattle.dwc_isa.specs.CallFrames.{description_view};
+ghost use Rattle.dwc_compiled.specs.FunctionFrames.{description_of_metadata};
+ghost use Rattle.dwc_frames.specs.Frames.{common_given};
+ghost use Rattle.dwc_section.specs.declared.error.WriteError.TheVariants as write;
 ghost use Rattle.dwc_carry.specs.CompiledFrames.{AddsFrames, DescribesAll, all_frames, compiled_frames, described_alone};
 ghost use Rattle.dwc_carry.specs.declared.error.DebugError.TheVariants.{OutOfMemory};
 
 use crate::DebugError;
 use dwc_addr::Compilation;
 use dwc_base::{StaticModuleIndex, SymbolId};
-use dwc_clif::{CfaUnwindInfo, CompiledFunctionMetadata, TargetIsa, UnwindInfo};
-use dwc_write::{FrameTable, WriteError};
+use dwc_compiled::CompiledFunctionMetadata;
+use dwc_frames::FrameTable;
+use dwc_isa::{CfaUnwindInfo, TargetIsa, UnwindInfo};
+use dwc_section::WriteError;
 use std::alloc::Global;
 
 // The frame description of a function, if one is told: that of its record, where this is one of System V, and else the one beside it.

@@ -4,9 +4,9 @@ ghost use Rattle.dwc_dwarf.specs.Indexed.{text_base};
 ghost use Rattle.dwc_carry.specs.LastLines.{last_after};
 
 use dwc_base::SectionName;
-use dwc_clone::UnitFiles;
 use dwc_kept::ReadUnit;
-use dwc_write::UnitId;
+use dwc_source::UnitFiles;
+use dwc_unit::UnitId;
 
 /// A line table that was carried: its offset in `.debug_line`, the address size of the unit that it was read for, where that unit's
 /// texts by an index begin, its files, and the unit of the output whose line program carries it.

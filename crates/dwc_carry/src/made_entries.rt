@@ -1,13 +1,14 @@
 //! Adds entries that stem from none of the input to a unit of the output.
 ghost use Rattle.std.specs.Prelude.{◌≡◌, ◌<◌, ◌≤◌, ℕ, length, map, All, IfOk, IsOkUnless, OnOk};
-ghost use Rattle.dwc_write.specs.GivenUnits.{IsAdded};
-ghost use Rattle.dwc_write.specs.TextTables.{IsText};
-ghost use Rattle.dwc_write.specs.declared.error.WriteError.TheVariants.{OutOfMemory};
-ghost use Rattle.dwc_clone.specs.MadeValues.{Grows};
+ghost use Rattle.dwc_unit.specs.GivenUnits.{IsAdded};
+ghost use Rattle.dwc_unit.specs.TextTables.{IsText};
+ghost use Rattle.dwc_section.specs.declared.error.WriteError.TheVariants.{OutOfMemory};
+ghost use Rattle.dwc_source.specs.MadeValues.{Grows};
 ghost use Rattle.dwc_carry.specs.MadeEntries.{AreBehind, FitsMade, addition_of, HaveFittingAttributes, IsDense, given_value, number_of, numbers_added, texts_added, with_additions, with_attributes};
 
 use dwc_base::constants::DW_FORM_data1;
-use dwc_write::{AttributeValue, StringId, StringTable, Unit, UnitEntryId, WriteError};
+use dwc_section::WriteError;
+use dwc_unit::{AttributeValue, StringId, StringTable, Unit, UnitEntryId};
 use std::alloc::Global;
 
 /// What an attribute of a made entry says.

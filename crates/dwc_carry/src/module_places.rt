@@ -2,8 +2,8 @@
 ghost use Rattle.std.specs.Prelude.{◌≡◌, suc, IfOk};
 ghost use Rattle.dwc_carry.specs.ModulePlaces.{carried_offsets, emitted, numbered_lists, IsKept};
 
-use dwc_clone::Places;
 use dwc_kept::{KeptModule, ReadUnit};
+use dwc_source::Places;
 use std::alloc::{AllocError, Global};
 
 /// The offsets of the kept entries of a unit of a module, in file order, if the unit is carried: its root is a compile unit, and an entry

@@ -1,10 +1,10 @@
 //! The entries of the unit for functions without debugging information.
 ghost use Rattle.std.specs.Prelude.{◌≡◌, ◌<◌, ℕ, length, All, IfOk, IsOkUnless, OnOk};
 ghost use Rattle.dwc_base.specs.declared.constants.TheConstants.{DW_AT_location};
-ghost use Rattle.dwc_write.specs.AddedInOrder.{with_entry};
-ghost use Rattle.dwc_write.specs.GivenUnits.{FitsValue};
-ghost use Rattle.dwc_write.specs.declared.attributes.AttributeValue.TheVariants.{LocationListRef};
-ghost use Rattle.dwc_write.specs.declared.error.WriteError.TheVariants.{OutOfMemory};
+ghost use Rattle.dwc_unit.specs.AddedInOrder.{with_entry};
+ghost use Rattle.dwc_unit.specs.GivenUnits.{FitsValue};
+ghost use Rattle.dwc_unit.specs.declared.attributes.AttributeValue.TheVariants.{LocationListRef};
+ghost use Rattle.dwc_section.specs.declared.error.WriteError.TheVariants.{OutOfMemory};
 ghost use Rattle.dwc_carry.specs.MadeEntries.{IsDense, with_additions};
 ghost use Rattle.dwc_carry.specs.SimulatedAdditions.{local_addition, subprogram_addition, type_additions};
 
@@ -15,7 +15,8 @@ use dwc_base::constants::{
     DW_AT_location, DW_AT_low_pc, DW_AT_name, DW_AT_type, DW_ATE_float, DW_ATE_signed,
     DW_FORM_udata, DW_TAG_base_type, DW_TAG_subprogram,
 };
-use dwc_write::{AttributeValue, LocationList, StringId, Unit, UnitEntryId, WriteError};
+use dwc_section::WriteError;
+use dwc_unit::{AttributeValue, LocationList, StringId, Unit, UnitEntryId};
 
 // The place of the root.
 const ROOT: usize = 0;

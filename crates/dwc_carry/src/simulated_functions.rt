@@ -1,11 +1,11 @@
-//! The listed functions of a module, with their parameters and variables, in the unit for functions without debugging information.
+//! The simulated functions of a module, with their parameters and variables, in the unit for functions without debugging information.
 ghost use Rattle.std.specs.Prelude.{◌≡◌, ◌<◌, ◌+◌, ◌++◌, ◌^◌, ℕ, List, Option, Some, length, slice_get, All, IfOk, IsOkUnless, OnOk};
 ghost use Rattle.dwc_native.specs.Addends.{HaveAddends};
 ghost use Rattle.dwc_rules.specs.Carried.{Module};
 ghost use Rattle.dwc_carried.specs.DefinedFunctions.{DefinedFunction};
 ghost use Rattle.dwc_rules.specs.Drafts.{Draft};
 ghost use Rattle.dwc_native.specs.Functions.{Function};
-ghost use Rattle.dwc_carried.specs.ListedFunctions.{listed_functions};
+ghost use Rattle.dwc_carried.specs.SimulatedFunctions.{simulated_functions};
 ghost use Rattle.dwc_rules.specs.Refusals.{Refusal};
 ghost use Rattle.dwc_base.specs.Listing.{first_of};
 ghost use Rattle.dwc_carried.specs.SimulatedUnit.{first_source, function_entries, variable_refusals};
@@ -13,36 +13,36 @@ ghost use Rattle.dwc_base.specs.TranslationNames.{HasSortedNames, told_file};
 ghost use Rattle.dwc_dwarf.specs.Trees.{TreeValue};
 ghost use Rattle.dwc_addr.specs.Transforms.{function_view};
 ghost use Rattle.dwc_image.specs.CarriedLines.{AreKept};
-ghost use Rattle.dwc_write.specs.GivenLines.{GivenLines};
-ghost use Rattle.dwc_write.specs.GivenUnits.{Addition};
+ghost use Rattle.dwc_unit.specs.GivenLines.{GivenLines};
+ghost use Rattle.dwc_unit.specs.GivenUnits.{Addition};
 ghost use Rattle.dwc_clone.specs.BegunNumbers.{is_noted};
-ghost use Rattle.dwc_clone.specs.MadeValues.{Grows};
+ghost use Rattle.dwc_source.specs.MadeValues.{Grows};
 ghost use Rattle.dwc_carry.specs.declared.error.DebugError.TheVariants.{OutOfMemory};
-ghost use Rattle.dwc_carry.specs.ListedFiles.{HasFirstLine};
-ghost use Rattle.dwc_carry.specs.ListedModules.{GivesFunction, GivesFunctions, IsListedModule, LeftFunctions, listed_from};
-ghost use Rattle.dwc_carry.specs.ListedVariables.{Extends};
+ghost use Rattle.dwc_carry.specs.SimulatedCode.{HasFirstLine};
+ghost use Rattle.dwc_carry.specs.SimulatedModules.{GivesFunction, GivesFunctions, IsSimulatedModule, LeftFunctions, simulated_from};
+ghost use Rattle.dwc_carry.specs.SimulatedVariables.{Extends};
 ghost use Rattle.dwc_carry.specs.MadeEntries.{IsDense};
-ghost use Rattle.dwc_carry.specs.OwnUnits.{reference_meant};
+ghost use Rattle.dwc_carry.specs.SyntheticUnits.{reference_meant};
 ghost use Rattle.dwc_carry.specs.Refusals.{ReadsOr};
 ghost use Rattle.dwc_carry.specs.SimulatedDrafts.{BeginsWith, HasFunctions, HasVariables, IsSimulated};
 
 use crate::DebugError;
-use crate::listed_names::function_name;
 use crate::local_types::FunctionLocals;
 use crate::simulated_entries::add_subprogram;
+use crate::simulated_names::function_name;
 use crate::simulated_texts::add_text;
-use crate::simulated_variables::{ListedFunction, add_variables};
+use crate::simulated_variables::{SimulatedFunction, add_variables};
 use dwc_addr::{AddressTransform, FunctionMap};
 use dwc_base::ModuleTranslation;
-use dwc_clif::TargetIsa;
-use dwc_clone::CompiledModule;
-use dwc_write::{DebugInfoRef, StringTable, Unit, UnitEntryId};
+use dwc_isa::TargetIsa;
+use dwc_source::CompiledModule;
+use dwc_unit::{DebugInfoRef, StringTable, Unit, UnitEntryId};
 use std::alloc::Global;
 use std::collections::BTreeSet;
 
-/// A module whose functions are listed.
+/// A module whose functions are simulated.
 #[derive(Clone, Copy)]
-pub(crate) struct ListedModule<'a> {
+pub(crate) struct SimulatedModule<'a> {
     pub translation: &'a ModuleTranslation<'a>,
     pub transform: &'a AddressTransform<'a>,
     pub compiled: &'a CompiledModule<'a>,
@@ -94,7 +94,7 @@ fn begin_function(
 fn add_function(
     alloc: Global,
     isa: &dyn TargetIsa,
-    module: &ListedModule<'_>,
+    module: &SimulatedModule<'_>,
     place: usize,
     number: usize,
     unit: &mut Unit,
@@ -109,7 +109,7 @@ fn add_function(
     requires some { 0 < length unit.old.additions }
     ensures grows { Grows strings.old strings.new }
     ensures extends { OnOk result (Extends unit.old unit.new) }
-    ensures functions { (m : Module) (n : ℕ) (f : Function) (before : List Draft) → IsListedModule (dwarf_registers isa.now) m «module».now → slice_get m.functions place ≡ Some f → f.symbol ≡ Some number → IsSimulated n strings.old before unit.old → ReadsOr (λ done. IsSimulated n strings.new (before ++ function_entries n (reference_meant «module».now.vmctx_ptr) m (record { place = place; function = f })) unit.new) (first_of (variable_refusals m (record { place = place; function = f }))) result }
+    ensures functions { (m : Module) (n : ℕ) (f : Function) (before : List Draft) → IsSimulatedModule (dwarf_registers isa.now) m «module».now → slice_get m.functions place ≡ Some f → f.symbol ≡ Some number → IsSimulated n strings.old before unit.old → ReadsOr (λ done. IsSimulated n strings.new (before ++ function_entries n (reference_meant «module».now.vmctx_ptr) m (record { place = place; function = f })) unit.new) (first_of (variable_refusals m (record { place = place; function = f }))) result }
 {
     let function = &module.transform.map()[place];
     let (index, entry) = begin_function(
@@ -124,24 +124,24 @@ fn add_function(
     match module.compiled.frame(number) {
         Some(frame) => {
             let locals = FunctionLocals::new(alloc, module.translation, place)?;
-            let listed = ListedFunction {
+            let simulated = SimulatedFunction {
                 index,
                 scope: (function.wasm_start, function.wasm_end),
                 locals: &locals,
                 frame,
                 entry,
             };
-            add_variables(alloc, isa, module, &listed, unit, strings)
+            add_variables(alloc, isa, module, &simulated, unit, strings)
         }
         None => Ok(()),
     }
 }
 
-// Adds the function at a place, if it is listed.
-fn add_if_listed(
+// Adds the function at a place, if it is simulated.
+fn add_if_simulated(
     alloc: Global,
     isa: &dyn TargetIsa,
-    module: &ListedModule<'_>,
+    module: &SimulatedModule<'_>,
     place: usize,
     translated: &BTreeSet<usize>,
     unit: &mut Unit,
@@ -156,7 +156,7 @@ fn add_if_listed(
     requires some { 0 < length unit.old.additions }
     ensures grows { Grows strings.old strings.new }
     ensures extends { OnOk result (Extends unit.old unit.new) }
-    ensures functions { (m : Module) (number : ℕ) (behind whole : List Draft) (total : Option Refusal) → IsListedModule (dwarf_registers isa.now) m «module».now → LeftFunctions number (reference_meant «module».now.vmctx_ptr) m behind whole (listed_from (is_noted translated.now) m place) total strings.old unit.old → GivesFunction number (reference_meant «module».now.vmctx_ptr) m behind whole (listed_from (is_noted translated.now) m (place + 1)) total strings.new unit.new result }
+    ensures functions { (m : Module) (number : ℕ) (behind whole : List Draft) (total : Option Refusal) → IsSimulatedModule (dwarf_registers isa.now) m «module».now → LeftFunctions number (reference_meant «module».now.vmctx_ptr) m behind whole (simulated_from (is_noted translated.now) m place) total strings.old unit.old → GivesFunction number (reference_meant «module».now.vmctx_ptr) m behind whole (simulated_from (is_noted translated.now) m (place + 1)) total strings.new unit.new result }
 {
     let function = &module.transform.map()[place];
     match function.symbol {
@@ -178,7 +178,7 @@ fn add_if_listed(
 pub(crate) fn add_functions(
     alloc: Global,
     isa: &dyn TargetIsa,
-    module: &ListedModule<'_>,
+    module: &SimulatedModule<'_>,
     translated: &BTreeSet<usize>,
     unit: &mut Unit,
     strings: &mut StringTable,
@@ -194,10 +194,10 @@ pub(crate) fn add_functions(
     ensures dense { OnOk result (IsDense unit.new) }
     ensures some { OnOk result (0 < length unit.new.additions) }
     ensures begins { (size : ℕ) (lines : GivenLines) (root : Addition) → BeginsWith size lines root unit.old → OnOk result (BeginsWith size lines root unit.new) }
-    ensures functions { (m : Module) (number : ℕ) (behind whole : List Draft) → IsListedModule (dwarf_registers isa.now) m «module».now → HasFunctions number (reference_meant «module».now.vmctx_ptr) m strings.old behind whole (listed_functions (is_noted translated.now) m) unit.old → GivesFunctions (is_noted translated.now) number (reference_meant «module».now.vmctx_ptr) m behind whole strings.new unit.new result }
+    ensures functions { (m : Module) (number : ℕ) (behind whole : List Draft) → IsSimulatedModule (dwarf_registers isa.now) m «module».now → HasFunctions number (reference_meant «module».now.vmctx_ptr) m strings.old behind whole (simulated_functions (is_noted translated.now) m) unit.old → GivesFunctions (is_noted translated.now) number (reference_meant «module».now.vmctx_ptr) m behind whole strings.new unit.new result }
 {
     for place in 0..module.transform.map().len() {
-        add_if_listed(alloc, isa, module, place, translated, unit, strings)?;
+        add_if_simulated(alloc, isa, module, place, translated, unit, strings)?;
     }
     Ok(())
 }

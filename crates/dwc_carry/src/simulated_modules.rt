@@ -1,33 +1,33 @@
-//! The entries of the listed functions of all modules, in the unit for functions without debugging information.
+//! The entries of the simulated functions of all modules, in the unit for functions without debugging information.
 ghost use Rattle.std.specs.Prelude.{◌≡◌, ◌<◌, ◌^◌, ℕ, List, None, length, map, All, OnOk};
 ghost use Rattle.dwc_native.specs.Addends.{HaveAddends};
 ghost use Rattle.dwc_rules.specs.Drafts.{Draft};
 ghost use Rattle.dwc_base.specs.TranslationNames.{HasSortedNames};
 ghost use Rattle.dwc_image.specs.CarriedLines.{AreKept};
-ghost use Rattle.dwc_write.specs.GivenLines.{GivenLines};
-ghost use Rattle.dwc_write.specs.GivenUnits.{Addition};
+ghost use Rattle.dwc_unit.specs.GivenLines.{GivenLines};
+ghost use Rattle.dwc_unit.specs.GivenUnits.{Addition};
 ghost use Rattle.dwc_clone.specs.BegunNumbers.{is_noted};
-ghost use Rattle.dwc_clone.specs.MadeValues.{Grows};
+ghost use Rattle.dwc_source.specs.MadeValues.{Grows};
 ghost use Rattle.dwc_carry.specs.Inputs.{bad_map, functions_from, modules_of};
-ghost use Rattle.dwc_carry.specs.LastUnits.{GivesEntries};
-ghost use Rattle.dwc_carry.specs.ListedFiles.{HasFirstLine, HasLowEnd};
-ghost use Rattle.dwc_carry.specs.ListedParts.{AddsModule};
+ghost use Rattle.dwc_carry.specs.SimulatedUnits.{GivesEntries};
+ghost use Rattle.dwc_carry.specs.SimulatedCode.{HasFirstLine, HasLowEnd};
+ghost use Rattle.dwc_carry.specs.SimulatedParts.{AddsModule};
 ghost use Rattle.dwc_carry.specs.MadeEntries.{IsDense};
-ghost use Rattle.dwc_carry.specs.OwnUnits.{reference_meant};
+ghost use Rattle.dwc_carry.specs.SyntheticUnits.{reference_meant};
 ghost use Rattle.dwc_carry.specs.SimulatedDrafts.{BeginsWith, HasModules};
 
 use crate::DebugError;
 use crate::compiled_module::compiled_module;
-use crate::simulated_functions::{ListedModule, add_functions};
+use crate::simulated_functions::{SimulatedModule, add_functions};
 use dwc_addr::{AddressTransform, Compilation};
 use dwc_base::{ModuleTranslation, StaticModuleIndex};
-use dwc_clif::TargetIsa;
-use dwc_clone::CompiledModule;
-use dwc_write::{DebugInfoRef, StringTable, Unit};
+use dwc_isa::TargetIsa;
+use dwc_source::CompiledModule;
+use dwc_unit::{DebugInfoRef, StringTable, Unit};
 use std::alloc::Global;
 use std::collections::BTreeSet;
 
-// Adds the listed functions of a module, with their parameters and variables.
+// Adds the simulated functions of a module, with their parameters and variables.
 fn add_module(
     alloc: Global,
     isa: &dyn TargetIsa,
@@ -52,7 +52,7 @@ fn add_module(
     ensures begins { (size : ℕ) (lines : GivenLines) (root : Addition) → BeginsWith size lines root unit.old → OnOk result (BeginsWith size lines root unit.new) }
     ensures functions { AddsModule (dwarf_registers isa.now) (is_noted translated.now) translation.now transform.now compiled.now vmctx_ptr.now strings.old strings.new unit.old unit.new result }
 {
-    let module = ListedModule {
+    let module = SimulatedModule {
         translation: &*translation,
         transform: &*transform,
         compiled: &*compiled,
@@ -61,7 +61,7 @@ fn add_module(
     add_functions(alloc, isa, &module, &*translated, unit, strings)
 }
 
-/// Adds the listed functions of all modules to a unit that has its root and the types of numbers, with their parameters and variables.
+/// Adds the simulated functions of all modules to a unit that has its root and the types of numbers, with their parameters and variables.
 /// `vmctx_ptrs` are the types of pointers to the contexts of the modules, one for each.
 ///
 /// # Errors

@@ -1,10 +1,10 @@
 //! The unit for functions without debugging information with its root alone. (DWARF 4, section 3.1.1.)
 ghost use Rattle.std.specs.Prelude.{◌≡◌, ◌⊎◌, ℕ, Some, IsOkUnless, OnOk};
 ghost use Rattle.dwc_base.specs.declared.constants.TheConstants.{DW_AT_ranges};
-ghost use Rattle.dwc_write.specs.GivenUnits.{FitsValue, new_unit};
-ghost use Rattle.dwc_write.specs.Writers.{OkUnlessMemory};
-ghost use Rattle.dwc_write.specs.declared.attributes.AttributeValue.TheVariants.{RangeListRef};
-ghost use Rattle.dwc_write.specs.declared.error.WriteError.TheVariants.{OutOfMemory};
+ghost use Rattle.dwc_unit.specs.GivenUnits.{FitsValue, new_unit};
+ghost use Rattle.dwc_section.specs.Writers.{OkUnlessMemory};
+ghost use Rattle.dwc_unit.specs.declared.attributes.AttributeValue.TheVariants.{RangeListRef};
+ghost use Rattle.dwc_section.specs.declared.error.WriteError.TheVariants.{OutOfMemory};
 ghost use Rattle.dwc_carry.specs.SimulatedAdditions.{root_given};
 
 use crate::made_entries::{MadeValue, set_attributes};
@@ -13,7 +13,8 @@ use dwc_base::constants::{
     DW_AT_comp_dir, DW_AT_language, DW_AT_name, DW_AT_producer, DW_AT_ranges, DW_AT_stmt_list,
     DW_FORM_data2, DW_LANG_C11,
 };
-use dwc_write::{AttributeValue, LineProgram, RangeList, StringId, Unit, WriteError};
+use dwc_section::WriteError;
+use dwc_unit::{AttributeValue, LineProgram, RangeList, StringId, Unit};
 use std::alloc::Global;
 
 /// The texts of the root, by their numbers.

@@ -1,16 +1,17 @@
 //! The texts of the unit for functions without debugging information.
 ghost use Rattle.std.specs.Prelude.{IfOk, IsOkUnless};
 ghost use Rattle.std.specs.List.{AllZip};
-ghost use Rattle.dwc_write.specs.TextTables.{IsText};
-ghost use Rattle.dwc_write.specs.declared.error.WriteError.TheVariants.{OutOfMemory};
-ghost use Rattle.dwc_clone.specs.KnownTexts.{IsNumbered};
-ghost use Rattle.dwc_clone.specs.MadeValues.{Grows};
+ghost use Rattle.dwc_unit.specs.TextTables.{IsText};
+ghost use Rattle.dwc_section.specs.declared.error.WriteError.TheVariants.{OutOfMemory};
+ghost use Rattle.dwc_source.specs.KnownTexts.{IsNumbered};
+ghost use Rattle.dwc_source.specs.MadeValues.{Grows};
 ghost use Rattle.dwc_carry.specs.SimulatedAdditions.{root_names, root_texts_of, type_names, type_texts_of};
 
 use crate::simulated_entries::TypeTexts;
 use crate::simulated_root::RootTexts;
 use crate::unit_path::{path_directory, path_name};
-use dwc_write::{StringId, StringTable, WriteError};
+use dwc_section::WriteError;
+use dwc_unit::{StringId, StringTable};
 
 /// Adds a text, which has no zero byte, to a table; its number.
 pub(crate) fn add_text(strings: &mut StringTable, text: &[u8]) -> Result<StringId, WriteError>

@@ -4,21 +4,21 @@ ghost use Rattle.dwc_native.specs.Addends.{HaveAddends};
 ghost use Rattle.dwc_rules.specs.Carried.{Module};
 ghost use Rattle.dwc_base.specs.TranslationNames.{told_file};
 ghost use Rattle.dwc_carried.specs.UnitPaths.{is_file_name, path_name};
-ghost use Rattle.dwc_clif.specs.Registers.{Registers};
+ghost use Rattle.dwc_isa.specs.Registers.{Registers};
 ghost use Rattle.dwc_image.specs.CarriedLines.{AreKept};
-ghost use Rattle.dwc_image.specs.SimulatedSequences.{listed_view};
-ghost use Rattle.dwc_write.specs.TextTables.{IsText};
-ghost use Rattle.dwc_write.specs.declared.error.WriteError.TheVariants.{OutOfMemory};
+ghost use Rattle.dwc_image.specs.SimulatedSequences.{simulated_view};
+ghost use Rattle.dwc_unit.specs.TextTables.{IsText};
+ghost use Rattle.dwc_section.specs.declared.error.WriteError.TheVariants.{OutOfMemory};
 ghost use Rattle.dwc_clone.specs.BegunNumbers.{is_noted};
-ghost use Rattle.dwc_clone.specs.MadeValues.{Grows};
+ghost use Rattle.dwc_source.specs.MadeValues.{Grows};
 ghost use Rattle.dwc_carry.specs.Inputs.{bad_map, counted_behind, functions_from, modules_of};
-ghost use Rattle.dwc_carry.specs.LastUnits.{GivesLast, GivesUnit, IsPathOf, IsTyped, counted_name};
-ghost use Rattle.dwc_carry.specs.ListedFiles.{CanWrite};
+ghost use Rattle.dwc_carry.specs.SimulatedUnits.{GivesSimulatedUnit, GivesUnit, IsPathOf, IsTyped, counted_name};
+ghost use Rattle.dwc_carry.specs.SimulatedCode.{CanWrite};
 ghost use Rattle.dwc_carry.specs.Refusals.{memory, told};
 ghost use Rattle.dwc_carry.specs.UnitPathParts.{IsUnitPath};
 
 use crate::DebugError;
-use crate::listed::{listed_functions, whole_ranges};
+use crate::simulated_code::{simulated_functions, whole_ranges};
 use crate::simulated_entries::add_types;
 use crate::simulated_modules::add_modules;
 use crate::simulated_root::root_unit;
@@ -26,13 +26,14 @@ use crate::simulated_texts::{root_texts, type_texts};
 use crate::unit_path::{UnitPath, is_file_name, path_name, unit_path};
 use dwc_addr::{AddressTransform, Compilation, FunctionMap};
 use dwc_base::{Encoding, ModuleTranslation};
-use dwc_clif::TargetIsa;
 use dwc_image::simulated_lines;
-use dwc_write::{DebugInfoRef, StringTable, Unit, UnitTable, WriteError};
+use dwc_isa::TargetIsa;
+use dwc_section::WriteError;
+use dwc_unit::{DebugInfoRef, StringTable, Unit, UnitTable};
 use std::alloc::{AllocError, Global};
 use std::collections::BTreeSet;
 
-// The unit of a path with its root and the types of numbers, for some listed functions.
+// The unit of a path with its root and the types of numbers, for some simulated functions.
 fn typed_unit(
     alloc: Global,
     encoding: Encoding,
@@ -44,9 +45,9 @@ fn typed_unit(
     requires size { (encoding.address_size ≡ 4) ⊎ (encoding.address_size ≡ 8) }
     requires path { IsText path.now }
     requires name { is_file_name (path_name path.now) ≡ true }
-    requires functions { All CanWrite (map listed_view functions.now) }
+    requires functions { All CanWrite (map simulated_view functions.now) }
     ensures grows { Grows strings.old strings.new }
-    ensures typed { IfOk result (IsTyped encoding.address_size path.now (map listed_view functions.now) strings.new) }
+    ensures typed { IfOk result (IsTyped encoding.address_size path.now (map simulated_view functions.now) strings.new) }
     ensures memory { IsOkUnless result OutOfMemory }
 {
     let ranges = whole_ranges(alloc, functions)?;
@@ -58,7 +59,7 @@ fn typed_unit(
     Ok(unit)
 }
 
-// The unit of a path for the listed functions of all modules.
+// The unit of a path for the simulated functions of all modules.
 fn simulated_unit(
     alloc: Global,
     isa: &dyn TargetIsa,
@@ -82,7 +83,7 @@ fn simulated_unit(
     ensures grows { Grows strings.old strings.new }
     ensures unit { GivesUnit (is_noted translated.now) encoding.address_size path.now (modules_of (dwarf_registers isa.now) compilation.now) vmctx_ptrs.now strings.old strings.new result }
 {
-    let functions = listed_functions(alloc, compilation, transforms, translated)?;
+    let functions = simulated_functions(alloc, compilation, transforms, translated)?;
     let mut unit = typed_unit(alloc, encoding, path, &functions, strings)?;
     add_modules(
         alloc,
@@ -132,16 +133,16 @@ fn taken_path(alloc: Global, compilation: &mut Compilation<'_>) -> Result<Vec<u8
 }
 
 /// Adds the unit for functions without debugging information of all modules of a compilation, behind the units that are there: of version
-/// 4, with a path, a line table whose lines are offsets in the wasm files, the types of numbers, and an entry for each function with a symbol
-/// whose number is not among `translated`, with its parameters and variables. The path is that of the first module; without modules nothing
-/// is added. `addr_tr` are the transforms of the modules, and `vmctx_ptr_die_refs` the types of pointers to their contexts: any references,
-/// one for each module, in order. `translated` are the numbers of functions that have entries already, as those that kept subprograms of
-/// carried units begin in.
+/// 4, with a path, a line table whose lines are offsets in the wasm files, the types of numbers, and an entry for each function with a
+/// symbol whose number is not among `translated`, with its parameters and variables. The path is that of the first module; without modules
+/// nothing is added. `addr_tr` are the transforms of the modules, and `vmctx_ptr_die_refs` the types of pointers to their contexts: any
+/// references, one for each module, in order. `translated` are the numbers of functions that have entries already, as those that kept
+/// subprograms of carried units begin in.
 ///
 /// # Errors
 /// `Path` exactly where the name that the path ends with is empty, `.` or `..`. Where it is not: `BadLabelRange` and `UnmappedRegister`
-/// for the first variable that is refused. `OutOfMemory` for want of memory. The units are then as before, and the texts may have more behind
-/// them. The counter of names has risen where the path is made of it, but for want of memory, where it may have.
+/// for the first variable that is refused. `OutOfMemory` for want of memory. The units are then as before, and the texts may have more
+/// behind them. The counter of names has risen where the path is made of it, but for want of memory, where it may have.
 pub fn generate_simulated_dwarf(
     alloc: Global,
     compilation: &mut Compilation<'_>,
@@ -160,7 +161,7 @@ pub fn generate_simulated_dwarf(
     requires functions { All AreKept addr_tr.now }
     requires addends { All HaveAddends addr_tr.now }
     requires contexts { length vmctx_ptr_die_refs.now ≡ length compilation.old.translations }
-    ensures added { GivesLast (is_noted translated.now) out_encoding.address_size compilation.old.next_id (modules_of (dwarf_registers isa.now) compilation.old) vmctx_ptr_die_refs.now out_units.old.units.items out_units.new.units.items out_strings.old out_strings.new result }
+    ensures added { GivesSimulatedUnit (is_noted translated.now) out_encoding.address_size compilation.old.next_id (modules_of (dwarf_registers isa.now) compilation.old) vmctx_ptr_die_refs.now out_units.old.units.items out_units.new.units.items out_strings.old out_strings.new result }
     ensures units { OnErr result (out_units.new.units.items ≡ out_units.old.units.items) }
     ensures texts { Grows out_strings.old out_strings.new }
     ensures counter { OnOk result (compilation.new ≡ counted_behind (dwarf_registers isa.now) compilation.old) }

@@ -1,4 +1,4 @@
-//! The parameters and variables of a listed function, below its entry in the unit for functions without debugging information.
+//! The parameters and variables of a simulated function, below its entry in the unit for functions without debugging information.
 ghost use Rattle.std.specs.Prelude.{◌≡◌, ◌<◌, ◌∷◌, ◌==◌, [], ℕ, List, Option, false, Some, option_and_then, length, IfOk, OnOk};
 ghost use Rattle.std.specs.List.{flat_map};
 ghost use Rattle.std.specs.FinMap as finite;
@@ -16,32 +16,32 @@ ghost use Rattle.dwc_carried.specs.SimulatedUnit.{place_of_type};
 ghost use Rattle.dwc_base.specs.ToldFiles.{type_of_local};
 ghost use Rattle.dwc_base.specs.TranslationNames.{HasSortedNames};
 ghost use Rattle.dwc_expr.specs.Builds.{surroundings};
-ghost use Rattle.dwc_write.specs.declared.attributes.AttributeValue.TheVariants.{LocationListRef};
-ghost use Rattle.dwc_write.specs.GivenUnits.{FitsValue};
-ghost use Rattle.dwc_clone.specs.MadeValues.{Grows};
-ghost use Rattle.dwc_carry.specs.ListedVariables.{AddsContextOr, Extends, GivesVariable, GivesVariables, IsListedFunction, LeftVariables, LocatesOr, label_refusals, local_tag_of, of_label};
+ghost use Rattle.dwc_unit.specs.declared.attributes.AttributeValue.TheVariants.{LocationListRef};
+ghost use Rattle.dwc_unit.specs.GivenUnits.{FitsValue};
+ghost use Rattle.dwc_source.specs.MadeValues.{Grows};
+ghost use Rattle.dwc_carry.specs.SimulatedVariables.{AddsContextOr, Extends, GivesVariable, GivesVariables, IsSimulatedFunction, LeftVariables, LocatesOr, label_refusals, local_tag_of, of_label};
 ghost use Rattle.dwc_carry.specs.MadeEntries.{IsDense};
-ghost use Rattle.dwc_carry.specs.OwnUnits.{reference_meant};
+ghost use Rattle.dwc_carry.specs.SyntheticUnits.{reference_meant};
 ghost use Rattle.dwc_carry.specs.SimulatedDrafts.{HasVariables};
 
 use crate::DebugError;
-use crate::listed_names::local_name;
+use crate::label_location::label_over;
 use crate::local_types::{FunctionLocals, place_of_type};
-use crate::located::label_over;
 use crate::simulated_entries::add_local;
-use crate::simulated_functions::ListedModule;
+use crate::simulated_functions::SimulatedModule;
+use crate::simulated_names::local_name;
 use crate::simulated_texts::add_text;
 use dwc_base::Limit;
 use dwc_base::constants::{DW_TAG_formal_parameter, DW_TAG_variable};
-use dwc_clif::{TargetIsa, ValueLabel, get_vmctx_value_label};
 use dwc_clone::append_vmctx_info;
 use dwc_expr::{ExprError, FunctionFrameInfo};
-use dwc_write::{LocationList, StringTable, Unit, UnitEntryId};
+use dwc_isa::{TargetIsa, ValueLabel, get_vmctx_value_label};
+use dwc_unit::{LocationList, StringTable, Unit, UnitEntryId};
 use std::alloc::Global;
 
-/// A listed function, whose parameters and variables are added.
+/// A simulated function, whose parameters and variables are added.
 #[derive(Clone, Copy)]
-pub(crate) struct ListedFunction<'l, 'a> {
+pub(crate) struct SimulatedFunction<'l, 'a> {
     /// Its number among all of its module, of which the imported ones come first.
     pub index: u64,
     /// Where it begins and ends in the wasm file.
@@ -77,11 +77,11 @@ fn of_label(error: ExprError, place: u32) -> DebugError
 }
 
 // Where the value of a label of a function lies over all of its source.
-fn located(
+fn label_locations(
     alloc: Global,
     isa: &dyn TargetIsa,
-    module: &ListedModule<'_>,
-    function: &ListedFunction<'_, '_>,
+    module: &SimulatedModule<'_>,
+    function: &SimulatedFunction<'_, '_>,
     label: ValueLabel,
 ) -> Result<LocationList, DebugError>
     requires addends { HaveAddends «module».now.transform.now }
@@ -127,8 +127,8 @@ fn local_tag(locals: &FunctionLocals<'_>, local: u32) -> u16
 fn add_context(
     alloc: Global,
     isa: &dyn TargetIsa,
-    module: &ListedModule<'_>,
-    function: &ListedFunction<'_, '_>,
+    module: &SimulatedModule<'_>,
+    function: &SimulatedFunction<'_, '_>,
     unit: &mut Unit,
     strings: &mut StringTable,
 ) -> Result<(), DebugError>
@@ -160,8 +160,8 @@ fn add_context(
 fn add_typed(
     alloc: Global,
     isa: &dyn TargetIsa,
-    module: &ListedModule<'_>,
-    function: &ListedFunction<'_, '_>,
+    module: &SimulatedModule<'_>,
+    function: &SimulatedFunction<'_, '_>,
     label: ValueLabel,
     type_place: usize,
     unit: &mut Unit,
@@ -173,9 +173,9 @@ fn add_typed(
     requires parent { function.now.entry.index < length unit.old.additions }
     ensures grows { Grows strings.old strings.new }
     ensures extends { OnOk result (Extends unit.old unit.new) }
-    ensures variable { (number : ℕ) (m : Module) (d : DefinedFunction) (before : List Draft) (left : List ℕ) (total : Option Refusal) → IsListedFunction (dwarf_registers isa.now) m d «module».now function.now → («label».0 == context_label) ≡ false → Simulated.type_place m d «label».0 ≡ Some type_place → LeftVariables number (reference_meant «module».now.vmctx_ptr) m d before («label».0 ∷ left) function.now.entry.index total strings.old unit.old → GivesVariable number (reference_meant «module».now.vmctx_ptr) m d before left function.now.entry.index total strings.new unit.new result }
+    ensures variable { (number : ℕ) (m : Module) (d : DefinedFunction) (before : List Draft) (left : List ℕ) (total : Option Refusal) → IsSimulatedFunction (dwarf_registers isa.now) m d «module».now function.now → («label».0 == context_label) ≡ false → Simulated.type_place m d «label».0 ≡ Some type_place → LeftVariables number (reference_meant «module».now.vmctx_ptr) m d before («label».0 ∷ left) function.now.entry.index total strings.old unit.old → GivesVariable number (reference_meant «module».now.vmctx_ptr) m d before left function.now.entry.index total strings.new unit.new result }
 {
-    let locations = located(alloc, isa, module, function, label)?;
+    let locations = label_locations(alloc, isa, module, function, label)?;
     let name = local_name(alloc, module.translation, function.index, label.0)?;
     let name = add_text(strings, &name)?;
     let tag = local_tag(function.locals, label.0);
@@ -187,8 +187,8 @@ fn add_typed(
 fn add_variable(
     alloc: Global,
     isa: &dyn TargetIsa,
-    module: &ListedModule<'_>,
-    function: &ListedFunction<'_, '_>,
+    module: &SimulatedModule<'_>,
+    function: &SimulatedFunction<'_, '_>,
     label: ValueLabel,
     unit: &mut Unit,
     strings: &mut StringTable,
@@ -199,7 +199,7 @@ fn add_variable(
     requires parent { function.now.entry.index < length unit.old.additions }
     ensures grows { Grows strings.old strings.new }
     ensures extends { OnOk result (Extends unit.old unit.new) }
-    ensures variable { (number : ℕ) (m : Module) (d : DefinedFunction) (before : List Draft) (left : List ℕ) (total : Option Refusal) → IsListedFunction (dwarf_registers isa.now) m d «module».now function.now → LeftVariables number (reference_meant «module».now.vmctx_ptr) m d before («label».0 ∷ left) function.now.entry.index total strings.old unit.old → GivesVariable number (reference_meant «module».now.vmctx_ptr) m d before left function.now.entry.index total strings.new unit.new result }
+    ensures variable { (number : ℕ) (m : Module) (d : DefinedFunction) (before : List Draft) (left : List ℕ) (total : Option Refusal) → IsSimulatedFunction (dwarf_registers isa.now) m d «module».now function.now → LeftVariables number (reference_meant «module».now.vmctx_ptr) m d before («label».0 ∷ left) function.now.entry.index total strings.old unit.old → GivesVariable number (reference_meant «module».now.vmctx_ptr) m d before left function.now.entry.index total strings.new unit.new result }
 {
     if label.0 == get_vmctx_value_label().0 {
         return add_context(alloc, isa, module, function, unit, strings);
@@ -217,8 +217,8 @@ fn add_variable(
 pub(crate) fn add_variables(
     alloc: Global,
     isa: &dyn TargetIsa,
-    module: &ListedModule<'_>,
-    function: &ListedFunction<'_, '_>,
+    module: &SimulatedModule<'_>,
+    function: &SimulatedFunction<'_, '_>,
     unit: &mut Unit,
     strings: &mut StringTable,
 ) -> Result<(), DebugError>
@@ -228,7 +228,7 @@ pub(crate) fn add_variables(
     requires parent { function.now.entry.index < length unit.old.additions }
     ensures grows { Grows strings.old strings.new }
     ensures extends { OnOk result (Extends unit.old unit.new) }
-    ensures variables { (number : ℕ) (m : Module) (d : DefinedFunction) (before : List Draft) → IsListedFunction (dwarf_registers isa.now) m d «module».now function.now → HasVariables number (reference_meant «module».now.vmctx_ptr) m d strings.old before (finite.keys function.now.frame.value_ranges.now) function.now.entry.index unit.old → GivesVariables number (reference_meant «module».now.vmctx_ptr) m d before function.now.entry.index (first_of (flat_map (label_refusals m d) (finite.keys function.now.frame.value_ranges.now))) strings.new unit.new result }
+    ensures variables { (number : ℕ) (m : Module) (d : DefinedFunction) (before : List Draft) → IsSimulatedFunction (dwarf_registers isa.now) m d «module».now function.now → HasVariables number (reference_meant «module».now.vmctx_ptr) m d strings.old before (finite.keys function.now.frame.value_ranges.now) function.now.entry.index unit.old → GivesVariables number (reference_meant «module».now.vmctx_ptr) m d before function.now.entry.index (first_of (flat_map (label_refusals m d) (finite.keys function.now.frame.value_ranges.now))) strings.new unit.new result }
 {
     for label in function.frame.value_ranges.labels() {
         add_variable(alloc, isa, module, function, label, unit, strings)?;

@@ -1,15 +1,17 @@
-//! The unit that a module has of its own: the type of its context, in which its linear memory is found, and that of an address in it.
+//! The synthetic unit, which a module has of its own: the type of its context, in which its linear memory is found, and that of an address
+//! in it.
 ghost use Rattle.std.specs.Prelude.{◌≡◌, ◌<◌, ◌⊎◌, length, OnErr};
-ghost use Rattle.dwc_rules.specs.OwnUnits as Own;
-ghost use Rattle.dwc_expr.specs.Frames.{memory_view};
-ghost use Rattle.dwc_clone.specs.MadeValues.{Grows};
-ghost use Rattle.dwc_carry.specs.OwnUnits.{GivesOwnUnit, memory_at};
+ghost use Rattle.dwc_rules.specs.SyntheticUnit as Synthetic;
+ghost use Rattle.dwc_isa.specs.ToldModules.{memory_view};
+ghost use Rattle.dwc_source.specs.MadeValues.{Grows};
+ghost use Rattle.dwc_carry.specs.SyntheticUnits.{GivesSyntheticUnit, memory_at};
 
 use crate::DebugError;
-use crate::own_entries::{own_texts, own_unit, set_place};
-use dwc_addr::{Compilation, ModuleMemoryOffset};
+use crate::synthetic_entries::{set_place, synthetic_texts, synthetic_unit};
+use dwc_addr::Compilation;
 use dwc_base::{Encoding, Limit, StaticModuleIndex};
-use dwc_write::{DebugInfoRef, StringTable, UnitEntryId, UnitId, UnitTable};
+use dwc_isa::ModuleMemoryOffset;
+use dwc_unit::{DebugInfoRef, StringTable, UnitEntryId, UnitId, UnitTable};
 use std::alloc::Global;
 
 /// The unit of the output that a module has of its own.
@@ -21,7 +23,7 @@ pub struct ModuleSyntheticUnit {
 
 // Whether the size of a context up to its memory has more than 32 bits.
 fn is_too_far(memory: ModuleMemoryOffset) -> bool
-    ensures { result ≡ Own.is_too_far (memory_view memory) }
+    ensures { result ≡ Synthetic.is_too_far (memory_view memory) }
 {
     match memory {
         ModuleMemoryOffset::Defined(offset) => u64::from(offset) + 8 >= 1 << 32,
@@ -35,8 +37,8 @@ impl ModuleSyntheticUnit {
     /// type of an address in the memory. It has no line table. Its texts are added to `out_strings`.
     ///
     /// # Errors
-    /// `TooLarge` `Vmctx` exactly where the memory is the module's own, at an offset above 2^32 - 9 in the context. `OutOfMemory` for want of
-    /// memory. The units are then as before, and the texts may have more behind them.
+    /// `TooLarge` `Vmctx` exactly where the memory is the module's own, at an offset above 2^32 - 9 in the context. `OutOfMemory` for want
+    /// of memory. The units are then as before, and the texts may have more behind them.
     pub fn new(
         alloc: Global,
         module: StaticModuleIndex,
@@ -48,7 +50,7 @@ impl ModuleSyntheticUnit {
         requires inside { «module».0 < length compilation.now.translations }
         requires version { encoding.version ≡ 4 }
         requires size { (encoding.address_size ≡ 4) ⊎ (encoding.address_size ≡ 8) }
-        ensures added { GivesOwnUnit encoding.address_size compilation.now.set_memory (memory_at compilation.now «module».0) out_units.old.units.items out_units.new.units.items out_strings.old out_strings.new result }
+        ensures added { GivesSyntheticUnit encoding.address_size compilation.now.set_memory (memory_at compilation.now «module».0) out_units.old.units.items out_units.new.units.items out_strings.old out_strings.new result }
         ensures units { OnErr result (out_units.new.units.items ≡ out_units.old.units.items) }
         ensures texts { Grows out_strings.old out_strings.new }
     {
@@ -56,8 +58,8 @@ impl ModuleSyntheticUnit {
         if is_too_far(memory) {
             return Err(DebugError::TooLarge { what: Limit::Vmctx });
         }
-        let texts = own_texts(alloc, out_strings, compilation.names().set_memory)?;
-        let unit = own_unit(alloc, encoding, &texts, memory)?;
+        let texts = synthetic_texts(alloc, out_strings, compilation.names().set_memory)?;
+        let unit = synthetic_unit(alloc, encoding, &texts, memory)?;
         let id = out_units.add(unit)?;
         let pointer = set_place(memory) + 2;
         Ok(ModuleSyntheticUnit {

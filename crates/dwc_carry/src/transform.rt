@@ -13,8 +13,8 @@ use crate::output_form::OutputForm;
 use crate::simulated_unit::generate_simulated_dwarf;
 use dwc_addr::{AddressTransform, Compilation};
 use dwc_base::{Encoding, Endian, StaticModuleIndex};
-use dwc_clif::TargetIsa;
-use dwc_write::{Dwarf, StringTable, UnitTable};
+use dwc_isa::TargetIsa;
+use dwc_unit::{Dwarf, StringTable, UnitTable};
 use std::alloc::Global;
 
 /// The units of DWARF for a compilation and a target: module by module and in order, the module's own, and one for each compile unit
@@ -29,7 +29,7 @@ use std::alloc::Global;
 /// `BadLabelRange`, `InvalidAttributeValue`, `UnmappedRegister` or `TooLarge` `Jump` for an expression that is built over its scope, or
 /// `TooLarge` `Vmctx` for a module whose memory is too far behind in its context,
 /// exactly where something is refused, for the first in the order of the work, module by module; then `Path` exactly where the path of the
-/// last unit names no file, and what is refused of the variables of its functions. `OutOfMemory` for want of memory.
+/// simulated unit names no file, and what is refused of the variables of its functions. `OutOfMemory` for want of memory.
 pub fn transform_dwarf(
     alloc: Global,
     isa: &dyn TargetIsa,

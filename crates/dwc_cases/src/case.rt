@@ -1,7 +1,7 @@
 //! Cases, as a file tells them.
 
 /// What is done with the files of a case.
-#[derive(Clone, Copy, Debug, PartialEq, Eq)]
+#[derive(Clone, Copy)]
 pub(crate) enum Action {
     /// The program is run.
     Run,

@@ -1,8 +1,9 @@
 //! A line table, as a text.
 use anyhow::{Result, bail};
-use dwc_base::{Address, LineRow, split_wasm};
+use dwc_base::{Address, LineRow};
 use dwc_read::{Sections, Units};
 use dwc_tabs::{LineStep, LineTable};
+use dwc_wasm::split_wasm;
 use std::alloc::Global;
 use std::fmt::Write;
 

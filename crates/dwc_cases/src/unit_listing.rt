@@ -1,7 +1,7 @@
 //! The units of a module, as a text.
 use anyhow::Result;
-use dwc_base::split_wasm;
 use dwc_read::{ReadFault, Sections, Unit, Units};
+use dwc_wasm::split_wasm;
 use std::alloc::Global;
 use std::fmt::Write;
 

@@ -11,7 +11,7 @@ use Rattle.dwc_base.specs.declared.records.Endian.{Endian}
 use Rattle.dwc_base.specs.declared.records.Endian.TheVariants.{Little, Big}
 use Rattle.dwc_base.specs.declared.records.MapFault.{MapFault}
 use Rattle.dwc_base.specs.declared.output.DwarfSection.{DwarfSection}
-use Rattle.dwc_base.specs.declared.wasm.ModuleTranslation.{ModuleTranslation}
+use Rattle.dwc_base.specs.declared.translation.ModuleTranslation.{ModuleTranslation}
 use Rattle.dwc_native.specs.SharedSymbols.{shared_symbol}
 use Rattle.dwc_native.specs.Compiled.{LinkageNames, ToldModule, frames_from, labels_from, values_from}
 use Rattle.dwc_native.specs.CallFrames.{CommonEntry}
@@ -25,12 +25,13 @@ use Rattle.dwc_rules.specs.Refusals.{Refusal}
 use Rattle.dwc_carried.specs.Forests.{first_refusal, trees_made}
 use Rattle.dwc_dwarf.specs.TreeLaws.{have_short_expressions}
 use Rattle.dwc_carried.specs.OutputCarried.{OutputCarried}
-use Rattle.dwc_base.proofs.Translated.{translation_sections-is}
-use Rattle.dwc_clif.specs.AddressMaps.{address_map_view}
-use Rattle.dwc_clif.specs.CallFrames.{cie_view, description_of_metadata}
-use Rattle.dwc_clif.specs.Registers.{Registers, registers_of}
-use Rattle.dwc_expr.specs.Frames.{memory_view}
-use Rattle.dwc_clone.specs.CompiledModules.{frames_in, labels_in, values_in, told_module}
+use Rattle.dwc_wasm.proofs.Translated.{translation_sections-is}
+use Rattle.dwc_compiled.specs.AddressMaps.{address_map_view}
+use Rattle.dwc_isa.specs.CallFrames.{cie_view}
+use Rattle.dwc_compiled.specs.FunctionFrames.{description_of_metadata}
+use Rattle.dwc_isa.specs.Registers.{Registers, registers_of}
+use Rattle.dwc_isa.specs.ToldModules.{memory_view}
+use Rattle.dwc_source.specs.CompiledModules.{frames_in, labels_in, values_in, told_module}
 use Rattle.dwc_addr.specs.Numbers.{Compiled, function_count, symbols_in, all_symbols, symbol_view}
 use Rattle.dwc_addr.specs.Transforms.{first_bad_map}
 use Rattle.dwc_carry.specs.Inputs as carry
@@ -41,7 +42,7 @@ use Rattle.dwc_map.specs.declared.map_file.MapFile.{MapFile}
 use Rattle.dwc_base.specs.Outputs.{section_view}
 use Rattle.dwc_addr.specs.declared.compilation_error.CompilationError.{CompilationError}
 use Rattle.dwc_addr.specs.declared.compilation_error.CompilationError.TheVariants as compiling
-use Rattle.dwc_addr.specs.declared.memory_offset.ModuleMemoryOffset.{ModuleMemoryOffset}
+use Rattle.dwc_isa.specs.declared.memory_offset.ModuleMemoryOffset.{ModuleMemoryOffset}
 use Rattle.dwc_addr.specs.Numbers.{AreDistinct}
 use Rattle.dwc_addr.specs.Compilations.{CompilationValue, IsCounted}
 use Rattle.dwc_carry.specs.declared.emit.CarriedDwarf.{CarriedDwarf}

@@ -7,14 +7,14 @@ use Rattle.std.specs.List.{AllZip}
 use Rattle.std.specs.List.Sorted.{IsStrictlySortedBy}
 use Rattle.std.specs.Ordering.{nat_cmp}
 use Rattle.std.proofs.lemmas.List.Elements.{All-cons, All-head, All-nil, All-tail}
-use Rattle.dwc_base.specs.declared.wasm.ModuleTranslation.{ModuleTranslation}
+use Rattle.dwc_base.specs.declared.translation.ModuleTranslation.{ModuleTranslation}
 use Rattle.dwc_base.specs.SortedEntries.{pair_cmp}
 use Rattle.dwc_base.specs.Wasm.{WasmModule}
 use Rattle.dwc_base.specs.ToldFiles.{file_of}
 use Rattle.dwc_base.specs.Translations.{IsWholeTranslation}
 use Rattle.dwc_base.specs.TranslationNames.{HasSortedNames, told_file, told_module_name, told_function_names, told_local_names, told_local_types}
-use Rattle.dwc_base.proofs.WasmNameLaws.{TellsNames-sorted}
-use Rattle.dwc_addr.specs.declared.memory_offset.ModuleMemoryOffset.{ModuleMemoryOffset}
+use Rattle.dwc_wasm.proofs.WasmNameLaws.{TellsNames-sorted}
+use Rattle.dwc_isa.specs.declared.memory_offset.ModuleMemoryOffset.{ModuleMemoryOffset}
 use Rattle.dwc_addr.specs.Numbers.{Compiled}
 use Rattle.dwc_addr.specs.Compilations.{IsCounted}
 use Rattle.dwc_map.specs.MapViews.{path_view}

@@ -10,7 +10,7 @@ use Rattle.dwc_base.specs.declared.section_name.SectionName.{SectionName}
 use Rattle.dwc_base.specs.declared.section_name.SectionName.TheVariants.{Abbrev, Addr, Info, Line, LineStr, Loc, Loclists, Ranges, Rnglists, Str, StrOffsets, CuIndex, Frame}
 use Rattle.dwc_base.specs.Sections.{section_text}
 use Rattle.dwc_base.specs.Outputs.{RelocationTarget, function, section, OutputRelocation, OutputSection}
-use Rattle.dwc_write.specs.Writers.{FitsTarget, IsWhole, IsSound, most_bytes}
+use Rattle.dwc_section.specs.Writers.{FitsTarget, IsWhole, IsSound, most_bytes}
 use Rattle.dwc_cli.specs.Printed.{is_plain, is_plain_relocation, is_plain_target, is_plain_addend, is_word}
 
 word : (name : SectionName) → is_word (section_text name) ≡ true

@@ -4,11 +4,12 @@ use Rattle.std.specs.Prelude.{Vec}
 use Rattle.std.specs.Global.{Global}
 use Rattle.std.specs.List.{AllZip}
 use Rattle.std.proofs.Math.Seq.{drop-cons}
-use Rattle.dwc_base.specs.declared.wasm.ModuleTranslation.{ModuleTranslation}
-use Rattle.dwc_base.specs.declared.wasm.WasmFault.{WasmFault}
-use Rattle.dwc_base.specs.declared.wasm.WasmFault.TheVariants.{Malformed, OutOfMemory}
+use Rattle.dwc_base.specs.declared.translation.ModuleTranslation.{ModuleTranslation}
+use Rattle.dwc_wasm.specs.declared.split.WasmFault.{WasmFault}
+use Rattle.dwc_wasm.specs.declared.split.WasmFault.TheVariants.{Malformed, OutOfMemory}
 use Rattle.dwc_base.specs.Wasm.{WasmModule}
-use Rattle.dwc_base.specs.Translations.{IsWholeTranslation, TranslatesFile}
+use Rattle.dwc_base.specs.Translations.{IsWholeTranslation}
+use Rattle.dwc_wasm.specs.FileTranslations.{TranslatesFile}
 use Rattle.dwc_cli.specs.Inputs.{with_module, wasm_modules}
 use Rattle.dwc_cli.specs.Failures.{wasm_status}
 use Rattle.dwc_cli.specs.Answers.{IsBroken}

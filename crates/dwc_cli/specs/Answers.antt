@@ -3,7 +3,7 @@ use Rattle.std.specs.Prelude.{◌≡◌, ◌⊎◌, ℕ, List, [], ◌∷◌, ma
 use Rattle.std.specs.Global.{Global}
 use Rattle.std.specs.List.{list_all, AllZip}
 use Rattle.dwc_base.specs.declared.output.DwarfSection.{DwarfSection}
-use Rattle.dwc_base.specs.declared.wasm.ModuleTranslation.{ModuleTranslation}
+use Rattle.dwc_base.specs.declared.translation.ModuleTranslation.{ModuleTranslation}
 use Rattle.dwc_base.specs.Outputs.{OutputSection, section_view}
 use Rattle.dwc_rules.specs.Refusals.{Refusal}
 use Rattle.dwc_carried.specs.Forests.{first_refusal, trees_made}

@@ -2,12 +2,12 @@
 use Rattle.std.specs.Prelude.{◌≡◌, ℕ, List, map, Option, option_map}
 use Rattle.dwc_base.specs.declared.records.Endian.{Endian}
 use Rattle.dwc_base.specs.declared.records.MapFault.{MapFault}
-use Rattle.dwc_base.specs.declared.wasm.ModuleTranslation.{ModuleTranslation}
+use Rattle.dwc_base.specs.declared.translation.ModuleTranslation.{ModuleTranslation}
 use Rattle.dwc_native.specs.SharedSymbols.{shared_symbol}
 use Rattle.dwc_native.specs.Compiled.{LinkageNames}
 use Rattle.dwc_native.specs.CallFrames.{CommonEntry}
-use Rattle.dwc_clif.specs.Registers.{Registers}
-use Rattle.dwc_addr.specs.declared.memory_offset.ModuleMemoryOffset.{ModuleMemoryOffset}
+use Rattle.dwc_isa.specs.Registers.{Registers}
+use Rattle.dwc_isa.specs.declared.memory_offset.ModuleMemoryOffset.{ModuleMemoryOffset}
 use Rattle.dwc_addr.specs.Numbers.{Compiled, all_symbols, symbol_view}
 use Rattle.dwc_carry.specs.Inputs as carry
 use Rattle.dwc_cli.specs.Inputs.{Loaded, compilation_of, shared_in, BadMap, bad_map}

@@ -1,8 +1,8 @@
 -- The numbers of statuses, and what the line of a failure says.
 use Rattle.std.specs.Prelude.{◌≡◌, ℕ, List, ◌++◌, true, codes}
-use Rattle.dwc_base.specs.declared.wasm.WasmFault.{WasmFault}
-use Rattle.dwc_base.specs.declared.wasm.WasmFault.TheVariants as wasm
-use Rattle.dwc_base.specs.declared.wasm.WasmFault.TheVariants.{Malformed}
+use Rattle.dwc_wasm.specs.declared.split.WasmFault.{WasmFault}
+use Rattle.dwc_wasm.specs.declared.split.WasmFault.TheVariants as wasm
+use Rattle.dwc_wasm.specs.declared.split.WasmFault.TheVariants.{Malformed}
 use Rattle.dwc_addr.specs.declared.compilation_error.CompilationError.{CompilationError}
 use Rattle.dwc_addr.specs.declared.compilation_error.CompilationError.TheVariants as compiling
 use Rattle.dwc_carry.specs.declared.error.DebugError.{DebugError}

@@ -12,7 +12,7 @@ use Rattle.dwc_native.specs.Compiled.{LabelRange, LinkageNames, ToldModule, fram
 use Rattle.dwc_base.specs.ToldFiles.{file_of}
 use Rattle.dwc_rules.specs.Carried.{Module, Compilation}
 use Rattle.dwc_native.specs.SharedSymbols.{shared_symbol}
-use Rattle.dwc_clif.specs.Registers.{Registers}
+use Rattle.dwc_isa.specs.Registers.{Registers}
 use Rattle.dwc_map.specs.MapFile.{MapFile, MapFunction, MapModule, map_of_bytes}
 use Rattle.dwc_map.specs.MapValues.{◌>>=◌}
 

@@ -16,7 +16,7 @@ use Rattle.dwc_carried.specs.Forests.{first_refusal, trees_made}
 use Rattle.dwc_carried.specs.OutputCarried.{OutputCarried, widest}
 use Rattle.dwc_dwarf.specs.TreeLaws.{have_short_expressions}
 use Rattle.dwc_write.specs.SpelledOutput.{AreSpelled}
-use Rattle.dwc_write.specs.Writers.{IsSound}
+use Rattle.dwc_section.specs.Writers.{IsSound}
 use Rattle.dwc_map.specs.MapFile.{map_of_bytes}
 use Rattle.dwc_cli.specs.Inputs.{Paths, paths_of, all_paths, Input, all_files, wasm_modules, defined_counts, Loaded, loaded, compilation_of, shared_in, bad_map}
 use Rattle.dwc_cli.specs.Printed.{printed, is_plain}
@@ -141,7 +141,7 @@ pub record AddressMapCause (read : Loaded) (status : ℕ) : Type 0 where
 -- the status of a refusal: of a place that is outside the grammar, of one of a refused kind, of a missing file, of a function that is too
 -- long, of a range that ends at no address; and of an expression: of a label with a range that begins above its end, of a module that lacks
 -- a memory, of a register without a number, and of a jump that goes too far; of a memory too far behind in its context; of a path of the
--- last unit that names no file; and of the frame description of a function, for its code offsets or for a factored offset
+-- simulated unit that names no file; and of the frame description of a function, for its code offsets or for a factored offset
 abbrev pub refusal_status : Refusal → ℕ
 refusal_status (of_place (unreadable what section offset)) = 10
 refusal_status (of_place (unsupported kind offset)) = 11

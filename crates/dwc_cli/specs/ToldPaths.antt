@@ -1,6 +1,6 @@
 -- The paths that a map tells of the files of its modules, in the translations of these.
 use Rattle.std.specs.Prelude.{◌≡◌, ℕ, List, [], ◌∷◌, Option, None, option_map}
-use Rattle.dwc_base.specs.declared.wasm.ModuleTranslation.{ModuleTranslation}
+use Rattle.dwc_base.specs.declared.translation.ModuleTranslation.{ModuleTranslation}
 
 -- a translation is another one with a path
 pub record HasPath (old : ModuleTranslation) (given : Option (List ℕ)) (new : ModuleTranslation) : Type 0 where

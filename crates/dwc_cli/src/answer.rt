@@ -11,8 +11,9 @@ ghost use Rattle.dwc_cli.specs.Answers.{status_of, IsInputOf, TranslatesFiles, C
 use crate::carrying::carry;
 use crate::failure::Failure;
 use crate::input_files::InputFiles;
-use dwc_base::{DwarfSection, ModuleTranslation, split_wasm};
+use dwc_base::{DwarfSection, ModuleTranslation};
 use dwc_map::map_for;
+use dwc_wasm::split_wasm;
 use std::alloc::Global;
 
 // The sections that are printed of an input: those of DWARF of its modules, rewritten for the code that its map tells of.

@@ -3,9 +3,10 @@ ghost use Rattle.std.specs.Prelude.{◌≡◌, ◌⊎◌, true, map, length, opt
 ghost use Rattle.dwc_base.specs.declared.records.Endian.TheVariants.{Little, Big};
 ghost use Rattle.dwc_native.specs.CallFrames.{is_sound_if};
 ghost use Rattle.dwc_base.specs.TranslationNames.{HasSortedNames};
-ghost use Rattle.dwc_clif.specs.CallFrames.{cie_view};
-ghost use Rattle.dwc_clif.specs.Registers.{registers_of};
-ghost use Rattle.dwc_addr.specs.Compilations.{lists, IsCounted, AreNames};
+ghost use Rattle.dwc_isa.specs.CallFrames.{cie_view};
+ghost use Rattle.dwc_isa.specs.Registers.{registers_of};
+ghost use Rattle.dwc_addr.specs.Compilations.{lists, IsCounted};
+ghost use Rattle.dwc_isa.specs.ToldModules.{AreNames};
 ghost use Rattle.dwc_carry.specs.Emits as carrying;
 ghost use Rattle.dwc_carry.specs.Emits.{IsReady};
 ghost use Rattle.dwc_cli.specs.Inputs.{Loaded};
@@ -16,10 +17,11 @@ ghost use Rattle.dwc_cli.specs.Answers.{IsReadAs, Carries};
 ghost use Rattle.dwc_cli.specs.Compiled.{IsCompiled};
 
 use crate::failure::Failure;
-use dwc_addr::{Compilation, LinkageNames, ModuleMemoryOffset};
+use dwc_addr::{Compilation, LinkageNames};
 use dwc_base::{Endian, ModuleTranslation, SymbolId, Tunables};
 use dwc_carry::{CarriedDwarf, DebugError, carry_dwarf};
-use dwc_clif::{CompiledFunctionMetadata, TableIsa};
+use dwc_compiled::CompiledFunctionMetadata;
+use dwc_isa::{ModuleMemoryOffset, TableIsa};
 use dwc_map::{MapFile, MapModule, Names, Target};
 use std::alloc::{AllocError, Global};
 
@@ -28,6 +30,7 @@ const TUNABLES: Tunables = Tunables {
     debug_symbols: true,
     page_align: 4096,
     internal_traps: false,
+    dwarf_version: 4,
 };
 
 // The DWARF that the one of some modules carries over to, for the functions of a map of these modules. Nothing of the map and of the

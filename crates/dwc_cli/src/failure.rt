@@ -9,8 +9,8 @@ use crate::sink::{Sink, write_all};
 use crate::source::Failed;
 use crate::status::Status;
 use dwc_addr::CompilationError;
-use dwc_base::WasmFault;
 use dwc_carry::DebugError;
+use dwc_wasm::WasmFault;
 use std::alloc::{AllocError, AllocFailed};
 
 const USAGE: &str = "usage: dwarfcarry [--package P] [--text] MAP MODULE... | --generate N";

@@ -13,7 +13,7 @@ const MOST: usize = 1 << 28;
 const BUFFER: usize = 65_536;
 
 /// Why a file is not loaded.
-#[derive(Clone, Copy, Debug, PartialEq, Eq)]
+#[derive(Clone, Copy)]
 pub(crate) enum LoadError {
     /// The source failed.
     Read,

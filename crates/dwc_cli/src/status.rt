@@ -3,7 +3,7 @@ ghost use Rattle.std.specs.Prelude.{◌≡◌};
 ghost use Rattle.dwc_cli.specs.Failures.{status_code};
 
 /// The status that the program ends with. Status 1 is `main`'s own, where it cannot get the words.
-#[derive(Clone, Copy, Debug, PartialEq, Eq)]
+#[derive(Clone, Copy)]
 pub enum Status {
     Done = 0,
     /// The words are not in the grammar.

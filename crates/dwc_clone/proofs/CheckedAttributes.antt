@@ -5,11 +5,12 @@ use Rattle.dwc_rules.specs.Kept.{Placed}
 use Rattle.dwc_rules.specs.Refusals.{Refusal}
 use Rattle.dwc_base.specs.Listing.{first_of}
 use Rattle.dwc_rules.specs.Clones.{UnitSource, attribute_becomes, attributes_become}
-use Rattle.dwc_clif.specs.Registers.{Registers}
-use Rattle.dwc_write.specs.declared.attributes.AttributeValue.{AttributeValue}
-use Rattle.dwc_clone.specs.declared.source.CloneSource.{CloneSource}
-use Rattle.dwc_clone.specs.MadeValues.{Grows, IsMade, RefusesSo, SaysMore}
-use Rattle.dwc_clone.specs.ClonedUnits.{clone_rules, TellsFirst}
+use Rattle.dwc_isa.specs.Registers.{Registers}
+use Rattle.dwc_unit.specs.declared.attributes.AttributeValue.{AttributeValue}
+use Rattle.dwc_source.specs.declared.source.CloneSource.{CloneSource}
+use Rattle.dwc_source.specs.MadeValues.{Grows, IsMade, RefusesSo, SaysMore}
+use Rattle.dwc_clone.specs.ClonedUnits.{TellsFirst}
+use Rattle.dwc_extents.specs.CodeSources.{clone_rules}
 use Rattle.dwc_clone.specs.ClonedEntries.{values_refused}
 use Rattle.dwc_clone.specs.WrappedEntries.{AreChecked}
 use Rattle.dwc_clone.proofs.EntryValues.{grows-not, grows-on, refused-here, refused-not}

@@ -13,27 +13,28 @@ use Rattle.dwc_rules.specs.Drafts.{Role}
 use Rattle.dwc_rules.specs.Refusals.{Refusal}
 use Rattle.dwc_base.specs.Listing.{first_of}
 use Rattle.dwc_rules.specs.Wrappers.{is_wrapped}
-use Rattle.dwc_clif.specs.Registers.{Registers}
+use Rattle.dwc_isa.specs.Registers.{Registers}
 use Rattle.dwc_kept.specs.KeptUnits.{AreBelow}
-use Rattle.dwc_write.specs.declared.units.UnitEntryId.{UnitEntryId}
-use Rattle.dwc_write.specs.GivenUnits.{GivenUnit, IsReserved}
-use Rattle.dwc_clone.specs.declared.error.CloneError.{CloneError}
-use Rattle.dwc_clone.specs.declared.source.CloneSource.{CloneSource}
-use Rattle.dwc_clone.specs.declared.type_name.TypeNames.{TypeNames}
+use Rattle.dwc_unit.specs.declared.units.UnitEntryId.{UnitEntryId}
+use Rattle.dwc_unit.specs.GivenUnits.{GivenUnit, IsReserved}
+use Rattle.dwc_source.specs.declared.error.CloneError.{CloneError}
+use Rattle.dwc_source.specs.declared.source.CloneSource.{CloneSource}
+use Rattle.dwc_types.specs.declared.type_name.TypeNames.{TypeNames}
 use Rattle.dwc_clone.specs.declared.wrapper.OpenWrapper.{OpenWrapper}
 use Rattle.dwc_clone.specs.BuiltUnits.{AreBuilt, AreClonedSoFar, AreRoles, BuiltSoFar, IsBegun, GivesEntry, TakesRoles, numbers_taken}
-use Rattle.dwc_clone.specs.ClonedUnits.{TellsFirst, clone_refusals, clone_rules, depths_of, goal_number, placed_in}
-use Rattle.dwc_clone.specs.ClonedEntries.{CanAdd, CanFollow, placed_entry}
-use Rattle.dwc_clone.specs.KnownNames.{KnowsNames}
-use Rattle.dwc_clone.specs.Lineages.{AreInForce, AreWalked, Stacks, no_stacks, with_entries, with_entry}
-use Rattle.dwc_clone.specs.MadeValues.{Grows}
+use Rattle.dwc_clone.specs.ClonedUnits.{TellsFirst, clone_refusals, depths_of, goal_number, placed_in}
+use Rattle.dwc_extents.specs.CodeSources.{clone_rules}
+use Rattle.dwc_clone.specs.ClonedEntries.{CanAdd, CanFollow}
+use Rattle.dwc_source.specs.Sources.{placed_entry, IsSource}
+use Rattle.dwc_types.specs.KnownNames.{KnowsNames}
+use Rattle.dwc_extents.specs.Lineages.{AreInForce, AreWalked, Stacks, no_stacks, with_entries, with_entry}
+use Rattle.dwc_source.specs.MadeValues.{Grows}
 use Rattle.dwc_clone.specs.OpenWrappers.{CanCloseAll, IsOther, closed_from, still_open}
-use Rattle.dwc_clone.specs.OutputPlaces as output
+use Rattle.dwc_source.specs.OutputPlaces as output
 use Rattle.dwc_clone.specs.ParameterContexts.{Contexts, with_context}
-use Rattle.dwc_clone.specs.Sources.{IsSource}
 use Rattle.dwc_clone.specs.WrappedEntries.{GivesWrapped, IsWrapped}
 use Rattle.dwc_clone.specs.PlainEntries.{GivesItself, IsItself}
-use Rattle.dwc_clone.proofs.NotedNameLaws.{names-grown}
+use Rattle.dwc_types.proofs.NotedNameLaws.{names-grown}
 use Rattle.dwc_clone.proofs.DraftPaths.{follow-from, path-long}
 use Rattle.dwc_clone.proofs.EntryMade.{CanBeItself, itself-behind, itself-first, root-plain, wrapped-built}
 use Rattle.dwc_clone.proofs.EntrySteps.{closed-length, ready}

@@ -13,10 +13,10 @@ use Rattle.dwc_native.specs.Functions.{Function}
 use Rattle.dwc_dwarf.specs.RawLists.{ListSource}
 use Rattle.dwc_rules.specs.RangeAttributes.{begun_function, bounds, extent, length_of, range_attributes, said_extent, said_intervals}
 use Rattle.dwc_dwarf.specs.Trees.{Interval, TreeValue, ranges}
-use Rattle.dwc_write.specs.declared.attributes.AttributeValue.TheVariants.{Address as AddressValue, Constant}
-use Rattle.dwc_write.specs.declared.units.UnitEntryId.{UnitEntryId}
-use Rattle.dwc_write.specs.GivenUnits.{Addition, GivenUnit, with_value}
-use Rattle.dwc_write.specs.RangeLists.{FitsRange, interval_of, is_symbol}
+use Rattle.dwc_unit.specs.declared.attributes.AttributeValue.TheVariants.{Address as AddressValue, Constant}
+use Rattle.dwc_unit.specs.declared.units.UnitEntryId.{UnitEntryId}
+use Rattle.dwc_unit.specs.GivenUnits.{Addition, GivenUnit, with_value}
+use Rattle.dwc_unit.specs.RangeLists.{FitsRange, interval_of, is_symbol}
 use Rattle.dwc_clone.specs.ClonedEntries.{IsGiven, IsLast}
 use Rattle.dwc_clone.proofs.EntryValues.{given-last, given-on, given-value, grows-not}
 

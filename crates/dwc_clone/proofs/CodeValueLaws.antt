@@ -36,17 +36,17 @@ use Rattle.dwc_read.specs.ValuesSeen.{value_view}
 use Rattle.dwc_tabs.specs.declared.list_fault.ListFault.{ListFault}
 use Rattle.dwc_tabs.specs.declared.list_fault.ListFault.TheVariants as list
 use Rattle.dwc_tabs.specs.RangeEnds.{refusal_view}
-use Rattle.dwc_write.specs.declared.attributes.AttributeValue.{AttributeValue}
-use Rattle.dwc_write.specs.declared.attributes.AttributeValue.TheVariants as output
-use Rattle.dwc_write.specs.Writers.{FitsField}
-use Rattle.dwc_clone.specs.declared.error.CloneError.{CloneError}
-use Rattle.dwc_clone.specs.declared.places.EmittedEntry.{EmittedEntry}
-use Rattle.dwc_clone.specs.declared.ranges.NativeRanges.{NativeRanges}
-use Rattle.dwc_clone.specs.Errors.{refusal_told}
-use Rattle.dwc_clone.specs.Errors as Errors
-use Rattle.dwc_clone.specs.MadeValues.{GivesMade, IsMade, RefusesSo, Says, SaysMore, is_address}
-use Rattle.dwc_clone.specs.NativeExtents.{IsNative}
-use Rattle.dwc_clone.proofs.TextLaws.{Grows-same}
+use Rattle.dwc_unit.specs.declared.attributes.AttributeValue.{AttributeValue}
+use Rattle.dwc_unit.specs.declared.attributes.AttributeValue.TheVariants as output
+use Rattle.dwc_section.specs.Writers.{FitsField}
+use Rattle.dwc_source.specs.declared.error.CloneError.{CloneError}
+use Rattle.dwc_source.specs.declared.places.EmittedEntry.{EmittedEntry}
+use Rattle.dwc_extents.specs.declared.ranges.NativeRanges.{NativeRanges}
+use Rattle.dwc_source.specs.Errors.{refusal_told}
+use Rattle.dwc_source.specs.Errors as Errors
+use Rattle.dwc_source.specs.MadeValues.{GivesMade, IsMade, RefusesSo, Says, SaysMore, is_address}
+use Rattle.dwc_extents.specs.NativeExtents.{IsNative}
+use Rattle.dwc_source.proofs.TextLaws.{Grows-same}
 
 -- a fault told at another offset
 moved : (what : What) (section : SectionName) (here there : ℕ) (flaw : Flaw) → fault_at there (fault_of what section here flaw) ≡ fault_of what section there flaw

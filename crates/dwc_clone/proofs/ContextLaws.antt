@@ -15,14 +15,14 @@ use Rattle.dwc_expr.specs.declared.error.ExprError.{ExprError}
 use Rattle.dwc_expr.specs.declared.error.ExprError.TheVariants.{Read, TooLarge, BadLabelRange, InvalidAttributeValue, UnmappedRegister, OutOfMemory}
 use Rattle.dwc_expr.specs.Builds.{location_view}
 use Rattle.dwc_expr.specs.Errors.{refusal_told}
-use Rattle.dwc_write.specs.declared.attributes.AttributeValue.TheVariants.{LocationListRef}
-use Rattle.dwc_write.specs.declared.attributes.DebugInfoRef.{DebugInfoRef}
-use Rattle.dwc_write.specs.declared.error.WriteError.{WriteError}
-use Rattle.dwc_write.specs.LocationLists.{LocationList}
-use Rattle.dwc_write.specs.GivenUnits.{FitsValue, GivenUnit}
+use Rattle.dwc_unit.specs.declared.attributes.AttributeValue.TheVariants.{LocationListRef}
+use Rattle.dwc_unit.specs.declared.attributes.DebugInfoRef.{DebugInfoRef}
+use Rattle.dwc_section.specs.declared.error.WriteError.{WriteError}
+use Rattle.dwc_unit.specs.LocationLists.{LocationList}
+use Rattle.dwc_unit.specs.GivenUnits.{FitsValue, GivenUnit}
 use Rattle.dwc_clone.specs.ClonedUnits.{TellsFirst}
 use Rattle.dwc_clone.specs.ContextPlaces.{AddsContext, IsRefused, IsVariable, OfWritten}
-use Rattle.dwc_clone.specs.LocatedValues.{told}
+use Rattle.dwc_extents.specs.LocationValues.{told}
 
 -- Where the context lies at places that fit a list, the variable that is added with that list is as is expected.
 pub context-added : (expected : Result (List Location) BuildRefusal) (parent : ℕ) (type : DebugInfoRef) (texts : List (List ℕ)) (u0 u : GivenUnit) (list : LocationList) (written : Result (Unit {0}) WriteError) (r : Result (Unit {0}) ExprError)

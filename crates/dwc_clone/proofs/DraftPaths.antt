@@ -4,8 +4,8 @@ use Rattle.std.specs.Prelude.{is_some, slice_get}
 use Rattle.std.proofs.lemmas.List.{length-take-le}
 use Rattle.dwc_dwarf.specs.Entries.{Entry}
 use Rattle.dwc_kept.specs.KeptUnits.{AreBelow}
-use Rattle.dwc_write.specs.declared.units.UnitEntryId.{UnitEntryId}
-use Rattle.dwc_write.specs.GivenUnits.{GivenUnit}
+use Rattle.dwc_unit.specs.declared.units.UnitEntryId.{UnitEntryId}
+use Rattle.dwc_unit.specs.GivenUnits.{GivenUnit}
 use Rattle.dwc_clone.specs.ClonedUnits.{depths_of}
 use Rattle.dwc_clone.specs.ClonedEntries.{ArePath, CanFollow, IsLastAt, last_parent}
 

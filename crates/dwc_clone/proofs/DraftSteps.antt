@@ -4,13 +4,13 @@ use Rattle.std.specs.Prelude.{IfSome, fold, slice_set}
 use Rattle.std.specs.List.{All}
 use Rattle.dwc_rules.specs.Drafts.{Draft, Goal, made_of}
 use Rattle.dwc_rules.specs.DraftForests.{settled_entry}
-use Rattle.dwc_write.specs.declared.units.UnitEntryId.{UnitEntryId}
-use Rattle.dwc_write.specs.GivenUnits.{Addition, GivenUnit, IsReserved, place_of, set_in_addition, with_child, with_known, with_next}
-use Rattle.dwc_write.specs.UsedTexts.{texts_of_attributes}
-use Rattle.dwc_write.specs.AddedInOrder.{entry_meant, with_last}
-use Rattle.dwc_write.specs.Renumbered.{LeadsToEntries}
-use Rattle.dwc_write.proofs.AddedInOrderUnits.{last-set, place-last}
-use Rattle.dwc_write.proofs.NumberLaws.{leads-entry, leads-known, child-entry, child-last, known-same, place-before, place-set-other}
+use Rattle.dwc_unit.specs.declared.units.UnitEntryId.{UnitEntryId}
+use Rattle.dwc_unit.specs.GivenUnits.{Addition, GivenUnit, IsReserved, place_of, set_in_addition, with_child, with_known, with_next}
+use Rattle.dwc_unit.specs.UsedTexts.{texts_of_attributes}
+use Rattle.dwc_unit.specs.AddedInOrder.{entry_meant, with_last}
+use Rattle.dwc_unit.specs.Renumbered.{LeadsToEntries}
+use Rattle.dwc_unit.proofs.AddedInOrderUnits.{last-set, place-last}
+use Rattle.dwc_unit.proofs.NumberLaws.{leads-entry, leads-known, child-entry, child-last, known-same, place-before, place-set-other}
 use Rattle.dwc_clone.specs.declared.made.MadeValue.{MadeValue}
 use Rattle.dwc_clone.specs.MadeAttributes.{given_value, with_made_entry, with_values}
 use Rattle.dwc_clone.specs.ClonedUnits.{HasNumber, draft_depths}

@@ -7,14 +7,14 @@ use Rattle.std.proofs.lemmas.List.{get_or_append_left, get_or_push, map-append}
 use Rattle.std.proofs.lemmas.List.Elements.{All-append, All-head, All-nil, All-push, All-tail, All-weaker}
 use Rattle.dwc_rules.specs.Drafts.{Draft, Goal}
 use Rattle.dwc_rules.specs.DraftForests.{settled_entry}
-use Rattle.dwc_write.specs.declared.units.UnitEntryId.{UnitEntryId}
-use Rattle.dwc_write.specs.GivenUnits.{Addition, GivenUnit, place_of, with_places}
-use Rattle.dwc_write.specs.UsedTexts.{texts_of_attributes}
-use Rattle.dwc_write.specs.AddedInOrder.{AreInOrder, entry_meant, tree_meant, with_last}
-use Rattle.dwc_write.specs.Renumbered.{LeadsToEntries}
-use Rattle.dwc_write.proofs.AddedInOrderUnits.{in-order-more}
-use Rattle.dwc_write.proofs.AddedInOrderValues.{tree-meant-more, tree-more}
-use Rattle.dwc_clone.specs.MadeValues.{Grows}
+use Rattle.dwc_unit.specs.declared.units.UnitEntryId.{UnitEntryId}
+use Rattle.dwc_unit.specs.GivenUnits.{Addition, GivenUnit, place_of, with_places}
+use Rattle.dwc_unit.specs.UsedTexts.{texts_of_attributes}
+use Rattle.dwc_unit.specs.AddedInOrder.{AreInOrder, entry_meant, tree_meant, with_last}
+use Rattle.dwc_unit.specs.Renumbered.{LeadsToEntries}
+use Rattle.dwc_unit.proofs.AddedInOrderUnits.{in-order-more}
+use Rattle.dwc_unit.proofs.AddedInOrderValues.{tree-meant-more, tree-more}
+use Rattle.dwc_source.specs.MadeValues.{Grows}
 use Rattle.dwc_clone.specs.BuiltUnits.{IsDrafted}
 use Rattle.dwc_clone.specs.ClonedUnits.{HasNumber, draft_depths}
 use Rattle.dwc_clone.specs.ClonedEntries.{ArePath, IsLastAt, IsLastOf}

@@ -7,30 +7,31 @@ use Rattle.dwc_base.specs.declared.constants.TheConstants.{DW_AT_location, DW_AT
 use Rattle.dwc_native.specs.BuiltExpressions.{BuildRefusal}
 use Rattle.dwc_rules.specs.CarriedDrafts.{draft_told}
 use Rattle.dwc_rules.specs.Clones.{UnitSource}
-use Rattle.dwc_rules.specs.ContextVariable.{context_entries, context_over, context_pointer, context_variable, located_or_none}
+use Rattle.dwc_rules.specs.ContextVariable.{context_entries, context_over, context_pointer, context_variable, locations_or_none}
 use Rattle.dwc_rules.specs.Drafts.{Draft, Goal, Role}
 use Rattle.dwc_rules.specs.DraftForests.{settled_entry}
 use Rattle.dwc_rules.specs.Kept.{Placed}
-use Rattle.dwc_rules.specs.OwnUnits.{place_of_context_pointer}
+use Rattle.dwc_rules.specs.SyntheticUnit.{place_of_context_pointer}
 use Rattle.dwc_dwarf.specs.Trees as trees
 use Rattle.dwc_dwarf.specs.Trees.{Location, TreeEntry, TreeValue, entry, set_in_order}
-use Rattle.dwc_clif.specs.Registers.{Registers}
+use Rattle.dwc_isa.specs.Registers.{Registers}
 use Rattle.dwc_expr.specs.Builds.{location_view}
-use Rattle.dwc_expr.specs.Frames.{memory_view}
-use Rattle.dwc_write.specs.declared.attributes.AttributeValue.TheVariants.{DebugInfoRef, LocationListRef, StringRef}
-use Rattle.dwc_write.specs.declared.units.UnitEntryId.{UnitEntryId}
-use Rattle.dwc_write.specs.GivenLines.{GivenLines}
-use Rattle.dwc_write.specs.GivenUnits.{Addition, GivenUnit, IsPlaceBelow, IsReserved, place_of, set_in_addition, with_child, with_known, with_next, with_value}
-use Rattle.dwc_write.specs.UsedTexts.{text_numbered, texts_of_attributes}
-use Rattle.dwc_write.specs.AddedInOrder.{attribute_meant, entry_meant, value_meant}
-use Rattle.dwc_write.proofs.AddedInOrderUnits.{last-set, place-last}
-use Rattle.dwc_write.proofs.NumberLaws.{child-entry, child-last, known-same, leads-entry, leads-known}
-use Rattle.dwc_clone.specs.declared.source.CloneSource.{CloneSource}
-use Rattle.dwc_clone.specs.ClonedUnits.{draft_depths, goal_number, source_with}
+use Rattle.dwc_isa.specs.ToldModules.{memory_view}
+use Rattle.dwc_unit.specs.declared.attributes.AttributeValue.TheVariants.{DebugInfoRef, LocationListRef, StringRef}
+use Rattle.dwc_unit.specs.declared.units.UnitEntryId.{UnitEntryId}
+use Rattle.dwc_unit.specs.GivenLines.{GivenLines}
+use Rattle.dwc_unit.specs.GivenUnits.{Addition, GivenUnit, IsPlaceBelow, IsReserved, place_of, set_in_addition, with_child, with_known, with_next, with_value}
+use Rattle.dwc_unit.specs.UsedTexts.{text_numbered, texts_of_attributes}
+use Rattle.dwc_unit.specs.AddedInOrder.{attribute_meant, entry_meant, value_meant}
+use Rattle.dwc_unit.proofs.AddedInOrderUnits.{last-set, place-last}
+use Rattle.dwc_unit.proofs.NumberLaws.{child-entry, child-last, known-same, leads-entry, leads-known}
+use Rattle.dwc_source.specs.declared.source.CloneSource.{CloneSource}
+use Rattle.dwc_clone.specs.ClonedUnits.{draft_depths, goal_number}
+use Rattle.dwc_extents.specs.CodeSources.{source_with}
 use Rattle.dwc_clone.specs.ClonedEntries.{IsGiven, IsLast, IsLastAt, IsLastOf}
 use Rattle.dwc_clone.specs.ContextPlaces.{HasContext, HasVariable}
-use Rattle.dwc_clone.specs.OutputPlaces as output
-use Rattle.dwc_clone.specs.Sources.{IsSource, own_unit_of}
+use Rattle.dwc_source.specs.OutputPlaces as output
+use Rattle.dwc_source.specs.Sources.{IsSource, synthetic_unit_of}
 use Rattle.dwc_clone.specs.BuiltUnits.{IsDrafted, rootless}
 use Rattle.dwc_clone.specs.PlainEntries.{values_whole}
 use Rattle.dwc_clone.proofs.DraftedUnits.{Extends, Follows, drafted-more, extended, last-here, unit_behind}
@@ -121,10 +122,10 @@ module _ (registers : Registers) (c : CloneSource) (number : ℕ) (s : UnitSourc
 
   module _ (texts : List (List ℕ)) where
     variable-follows : (ds : List Draft) (u v : GivenUnit) (parent : UnitEntryId) (expected : Result (List Location) BuildRefusal) → IsDrafted at number texts ds u → LastOf ds p.entry.depth u parent → HasContext expected parent.index c.vmctx_ptr texts u v
-        → Adds at number texts (suc p.entry.depth) ds (context_variable (suc p.entry.depth) (context_pointer (source_with registers c s)) (located_or_none expected) ∷ []) u v
+        → Adds at number texts (suc p.entry.depth) ds (context_variable (suc p.entry.depth) (context_pointer (source_with registers c s)) (locations_or_none expected) ∷ []) u v
     variable-follows ds u v parent expected so last has =
         let deep = suc p.entry.depth in
-        let d = context_variable deep (context_pointer (source_with registers c s)) (located_or_none expected) in
+        let d = context_variable deep (context_pointer (source_with registers c s)) (locations_or_none expected) in
         let places = next_places u in
         let id = length u.places in
         let here = place-last u.places (Some (length u.additions)) in
@@ -146,8 +147,8 @@ module _ (registers : Registers) (c : CloneSource) (number : ℕ) (s : UnitSourc
           parent = last.last;
           means =
               ap (λ r. tree (text_numbered texts has.name.index) (value_meant texts number (DebugInfoRef r)) (map location_view has.list.locations.items)) source.context
-              ∙ ap (λ name. tree name (entry (own_unit_of c) (place_of_context_pointer (memory_view c.module.memory))) (map location_view has.list.locations.items)) (has.named).is
-              ∙ ap (λ (r : Result (List Location) BuildRefusal). tree (codes "__vmctx") (entry (own_unit_of c) (place_of_context_pointer (memory_view c.module.memory))) (located_or_none r)) (sym has.located);
+              ∙ ap (λ name. tree name (entry (synthetic_unit_of c) (place_of_context_pointer (memory_view c.module.memory))) (map location_view has.list.locations.items)) (has.named).is
+              ∙ ap (λ (r : Result (List Location) BuildRefusal). tree (codes "__vmctx") (entry (synthetic_unit_of c) (place_of_context_pointer (memory_view c.module.memory))) (locations_or_none r)) (sym has.located);
           texts = All-cons (λ n. n < length texts) has.name.index [] (has.named).inside (All-nil (λ n. n < length texts));
           here = here;
           kept = next-keeps u;
@@ -165,6 +166,6 @@ module _ (registers : Registers) (c : CloneSource) (number : ℕ) (s : UnitSourc
     variable-adds ds u v parent so last has = go (context_over (source_with registers c s) p) has
       where
         go : (o : Option (Result (List Location) BuildRefusal)) → HasVariable o parent.index c.vmctx_ptr texts u v
-            → Adds at number texts (suc p.entry.depth) ds (option_to_list (option_map (λ located. context_variable (suc p.entry.depth) (context_pointer (source_with registers c s)) (located_or_none located)) o)) u v
+            → Adds at number texts (suc p.entry.depth) ds (option_to_list (option_map (λ located. context_variable (suc p.entry.depth) (context_pointer (source_with registers c s)) (locations_or_none located)) o)) u v
         go None same = subst (Adds at number texts (suc p.entry.depth) ds [] u) (sym same) (adds-none registers c number s source roles texts (suc p.entry.depth) ds u so)
         go (Some expected) one = variable-follows ds u v parent expected so last one

@@ -11,28 +11,29 @@ use Rattle.dwc_rules.specs.Kept.{Placed}
 use Rattle.dwc_dwarf.specs.Trees.{Location}
 use Rattle.dwc_rules.specs.CarriedDrafts.{entry_made}
 use Rattle.dwc_rules.specs.Clones.{UnitSource}
-use Rattle.dwc_rules.specs.ContextVariable.{context_entries, context_in, context_over, context_pointer, context_variable, located_or_none}
+use Rattle.dwc_rules.specs.ContextVariable.{context_entries, context_in, context_over, context_pointer, context_variable, locations_or_none}
 use Rattle.dwc_rules.specs.Drafts.{Draft, Goal, Role}
 use Rattle.dwc_rules.specs.EntryRules.{wrappers_of}
 use Rattle.dwc_rules.specs.LocationRules.{ExpressionSource, in_force_at}
 use Rattle.dwc_rules.specs.TypeNames.{type_name}
 use Rattle.dwc_rules.specs.Wrappers.{WrapperSource, closing, entries_made, is_wrapped, made_itself, name_or_unknown, open_behind, wrapper, wrapper_name}
 use Rattle.dwc_rules.proofs.WrapperLaws.{entries-in_place, made-next}
-use Rattle.dwc_clif.specs.Registers.{Registers}
-use Rattle.dwc_write.specs.declared.units.UnitEntryId.{UnitEntryId}
-use Rattle.dwc_write.specs.GivenUnits.{Addition, GivenUnit, IsPlaceBelow, IsReserved, place_of, with_child, with_known}
-use Rattle.dwc_write.specs.AddedInOrder.{with_last}
-use Rattle.dwc_write.proofs.NumberLaws.{child-places}
+use Rattle.dwc_isa.specs.Registers.{Registers}
+use Rattle.dwc_unit.specs.declared.units.UnitEntryId.{UnitEntryId}
+use Rattle.dwc_unit.specs.GivenUnits.{Addition, GivenUnit, IsPlaceBelow, IsReserved, place_of, with_child, with_known}
+use Rattle.dwc_unit.specs.AddedInOrder.{with_last}
+use Rattle.dwc_unit.proofs.NumberLaws.{child-places}
 use Rattle.dwc_clone.specs.declared.entry.PlacedEntry.{PlacedEntry}
-use Rattle.dwc_clone.specs.declared.source.CloneSource.{CloneSource}
+use Rattle.dwc_source.specs.declared.source.CloneSource.{CloneSource}
 use Rattle.dwc_clone.specs.declared.wrapper.OpenWrapper.{OpenWrapper}
 use Rattle.dwc_clone.specs.BuiltUnits.{AreBuilt, AreOpen, HasRoles, IsBegun, IsOpen, TakesRoles, numbers_taken, rootless}
-use Rattle.dwc_clone.specs.ClonedUnits.{clone_drafts, draft_depths, goal_number, placed_in, source_with}
-use Rattle.dwc_clone.specs.ClonedEntries.{AddsBelow, IsLast, IsLastAt, last_parent, placed_entry}
+use Rattle.dwc_clone.specs.ClonedUnits.{clone_drafts, draft_depths, goal_number, placed_in}
+use Rattle.dwc_extents.specs.CodeSources.{source_with}
+use Rattle.dwc_clone.specs.ClonedEntries.{AddsBelow, IsLast, IsLastAt, last_parent}
+use Rattle.dwc_source.specs.Sources.{placed_entry, IsSource}
 use Rattle.dwc_clone.specs.ContextPlaces.{HasVariable}
-use Rattle.dwc_clone.specs.OutputPlaces as output
+use Rattle.dwc_source.specs.OutputPlaces as output
 use Rattle.dwc_clone.specs.PlainEntries.{IsItself}
-use Rattle.dwc_clone.specs.Sources.{IsSource}
 use Rattle.dwc_clone.specs.WrappedEntries.{IsWrapped}
 use Rattle.dwc_clone.proofs.DraftPaths.{parent-of}
 use Rattle.dwc_clone.proofs.DraftedUnits.{drafted-texts, last-extended}
@@ -85,7 +86,7 @@ module _ (registers : Registers) (c : CloneSource) (number : ℕ) (s : UnitSourc
   variable-taken : (plain : is_wrapped p ≡ false) (parent : ℕ) (new : List (List ℕ)) (u v : GivenUnit) → HasVariable (context_over cs p) parent c.vmctx_ptr new u v → Takes u v
   variable-taken plain parent new u v has = go (context_over cs p) has ∙ ap (λ b. numbers_in u + (if b then 11 else length (context_entries cs p))) (sym plain)
     where
-      go : (o : Option (Result (List Location) BuildRefusal)) → HasVariable o parent c.vmctx_ptr new u v → numbers_in v ≡ numbers_in u + length (option_to_list (option_map (λ located. context_variable (suc e.depth) (context_pointer cs) (located_or_none located)) o))
+      go : (o : Option (Result (List Location) BuildRefusal)) → HasVariable o parent c.vmctx_ptr new u v → numbers_in v ≡ numbers_in u + length (option_to_list (option_map (λ located. context_variable (suc e.depth) (context_pointer cs) (locations_or_none located)) o))
       go None same = ap numbers_in same ∙ omega arith
       go (Some expected) one = variable-count expected parent c.vmctx_ptr new u v one
 
@@ -158,7 +159,7 @@ module _ (registers : Registers) (c : CloneSource) (number : ℕ) (s : UnitSourc
       let none = no-context tag in
       let plain = root-plain tag in
       let same : v ≡ middle = subst (λ o. HasVariable o 0 c.vmctx_ptr new middle v) none itself.variable in
-      let empty : context_entries cs p ≡ [] = ap (λ o. option_to_list (option_map (λ located. context_variable (suc e.depth) (context_pointer cs) (located_or_none located)) o)) none in
+      let empty : context_entries cs p ≡ [] = ap (λ o. option_to_list (option_map (λ located. context_variable (suc e.depth) (context_pointer cs) (locations_or_none located)) o)) none in
       let whole : made_itself wrapping clone p ≡ own ∷ [] = plain-made plain ∙ ap (λ xs. own ∷ xs) empty in
       let r = root-drafted registers c number s source roles p texts itself.texts begun.address_size begun.lines u.places middle depth first below placed_at itself.given in
       let drafted = drafted-texts at number itself.texts new itself.grows (own ∷ []) middle r.0 in

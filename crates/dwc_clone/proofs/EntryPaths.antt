@@ -4,10 +4,10 @@ use Rattle.std.specs.Prelude.{is_some}
 use Rattle.std.proofs.lemmas.Bool.{eqb-true, eqb-false}
 use Rattle.std.proofs.lemmas.List.{get_or_append_left, get_or_push}
 use Rattle.std.proofs.lemmas.List.Elements.{All-push, All-take, All-weaker}
-use Rattle.dwc_write.specs.declared.units.UnitEntryId.{UnitEntryId}
-use Rattle.dwc_write.specs.GivenUnits.{GivenUnit, IsAdded, IsReserved, place_of, with_additions, with_child, with_known, with_next}
-use Rattle.dwc_write.proofs.AddedInOrderUnits.{place-last}
-use Rattle.dwc_write.proofs.NumberLaws.{added-on-child, added-on-known, known-same}
+use Rattle.dwc_unit.specs.declared.units.UnitEntryId.{UnitEntryId}
+use Rattle.dwc_unit.specs.GivenUnits.{GivenUnit, IsAdded, IsReserved, place_of, with_additions, with_child, with_known, with_next}
+use Rattle.dwc_unit.proofs.AddedInOrderUnits.{place-last}
+use Rattle.dwc_unit.proofs.NumberLaws.{added-on-child, added-on-known, known-same}
 use Rattle.dwc_clone.specs.declared.entry.PlacedEntry.{PlacedEntry}
 use Rattle.dwc_clone.specs.ClonedEntries.{AddsBelow, AreKnown, CanAdd, IsLastOf, last_parent}
 

@@ -11,16 +11,17 @@ use Rattle.dwc_rules.specs.EntryRules.{wrappers_of}
 use Rattle.dwc_rules.specs.LocationRules.{ExpressionSource}
 use Rattle.dwc_rules.specs.Wrappers.{WrapperSource, closing, entries_made, left_open, made_itself, open_behind, types_closed}
 use Rattle.dwc_rules.proofs.WrapperLaws.{entries-in_place, made-next}
-use Rattle.dwc_clif.specs.Registers.{Registers}
-use Rattle.dwc_write.specs.declared.units.UnitEntryId.{UnitEntryId}
-use Rattle.dwc_write.specs.GivenUnits.{GivenUnit}
-use Rattle.dwc_clone.specs.declared.source.CloneSource.{CloneSource}
+use Rattle.dwc_isa.specs.Registers.{Registers}
+use Rattle.dwc_unit.specs.declared.units.UnitEntryId.{UnitEntryId}
+use Rattle.dwc_unit.specs.GivenUnits.{GivenUnit}
+use Rattle.dwc_source.specs.declared.source.CloneSource.{CloneSource}
 use Rattle.dwc_clone.specs.declared.wrapper.OpenWrapper.{OpenWrapper}
 use Rattle.dwc_clone.specs.BuiltUnits.{AreBuilt, AreOpen, IsDrafted}
-use Rattle.dwc_clone.specs.ClonedUnits.{clone_drafts, draft_depths, goal_number, placed_in, source_with}
-use Rattle.dwc_clone.specs.ClonedEntries.{ArePath, IsLastAt, placed_entry}
+use Rattle.dwc_clone.specs.ClonedUnits.{clone_drafts, draft_depths, goal_number, placed_in}
+use Rattle.dwc_extents.specs.CodeSources.{source_with}
+use Rattle.dwc_clone.specs.ClonedEntries.{ArePath, IsLastAt}
+use Rattle.dwc_source.specs.Sources.{placed_entry, IsSource}
 use Rattle.dwc_clone.specs.OpenWrappers.{CanCloseAll, closed_from, still_open, types_added}
-use Rattle.dwc_clone.specs.Sources.{IsSource}
 use Rattle.dwc_clone.proofs.DraftPaths.{path-front, path-long, path-push}
 use Rattle.dwc_clone.proofs.DraftedUnits.{path-extended}
 use Rattle.dwc_clone.proofs.DraftSteps.{Adds}

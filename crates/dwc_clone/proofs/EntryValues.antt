@@ -3,7 +3,7 @@ use Rattle.std.proofs.Common.{◌≡◌, ℕ, ◌<◌, refl, sym, ap, ap₂, sub
 use Rattle.std.specs.Prelude.{◌==◌, ◌&&◌, OnOk, filter_map, option_and_then, option_map, option_to_list, Bool, true, false, if◌then◌else◌}
 use Rattle.std.specs.List.{All, cons_option}
 use Rattle.std.proofs.lemmas.Bool.{eq-eqb}
-use Rattle.std.proofs.lemmas.List.{append-nil, append_assoc, drop_more, get_or-map, length-map, length-take-le, take_more}
+use Rattle.std.proofs.lemmas.List.{append-nil, append_assoc, drop_more, get_or-map, length-map, take_more}
 use Rattle.std.proofs.lemmas.List.Elements.{All-append, All-nil}
 use Rattle.std.proofs.lemmas.List.Sums.{fold-append}
 use Rattle.dwc_base.specs.declared.constants.TheConstants.{DW_AT_endianity, DW_END_little, DW_FORM_data1, DW_TAG_base_type}
@@ -15,23 +15,24 @@ use Rattle.dwc_dwarf.specs.Trees.{TreeValue, constant, set_attribute}
 use Rattle.dwc_rules.specs.Clones.{UnitSource, attribute_becomes, attributes_become, endianity, if_made, if_refused}
 use Rattle.dwc_rules.specs.Drafts.{Goal, DraftValue, done}
 use Rattle.dwc_rules.specs.DraftForests.{settled, settled_value}
-use Rattle.dwc_clif.specs.Registers.{Registers}
+use Rattle.dwc_isa.specs.Registers.{Registers}
 use Rattle.dwc_read.specs.declared.value.AttributeValue.{AttributeValue as InputValue}
 use Rattle.dwc_read.specs.ValuesSeen.{attribute_view}
 use Rattle.dwc_clone.specs.GivenAttributes.{Attribute}
-use Rattle.dwc_write.specs.declared.attributes.AttributeValue.{AttributeValue}
-use Rattle.dwc_write.specs.declared.attributes.AttributeValue.TheVariants.{Constant}
-use Rattle.dwc_write.specs.declared.units.UnitEntryId.{UnitEntryId}
-use Rattle.dwc_write.specs.GivenUnits as GivenUnits
-use Rattle.dwc_write.specs.GivenUnits.{Addition, GivenUnit, place_of, set_in, set_in_addition, with_additions, with_value}
-use Rattle.dwc_write.specs.UsedTexts.{text_of_value, texts_of_attributes}
-use Rattle.dwc_write.specs.AddedInOrder.{attribute_meant, value_meant}
-use Rattle.dwc_write.proofs.ReadValues.{All-back, All-front}
-use Rattle.dwc_write.proofs.AddedInOrderUnits.{last-set}
-use Rattle.dwc_write.proofs.AddedInOrderValues.{attributes-meant-more, set-meant}
-use Rattle.dwc_clone.specs.declared.source.CloneSource.{CloneSource}
-use Rattle.dwc_clone.specs.MadeValues.{ArePlaced, Grows, HasTexts, RefusesSo, SaysMore, wanted_value}
-use Rattle.dwc_clone.specs.ClonedUnits.{clone_rules, TellsFirst}
+use Rattle.dwc_unit.specs.declared.attributes.AttributeValue.{AttributeValue}
+use Rattle.dwc_unit.specs.declared.attributes.AttributeValue.TheVariants.{Constant}
+use Rattle.dwc_unit.specs.declared.units.UnitEntryId.{UnitEntryId}
+use Rattle.dwc_unit.specs.GivenUnits as GivenUnits
+use Rattle.dwc_unit.specs.GivenUnits.{Addition, GivenUnit, place_of, set_in, set_in_addition, with_additions, with_value}
+use Rattle.dwc_unit.specs.UsedTexts.{text_of_value, texts_of_attributes}
+use Rattle.dwc_unit.specs.AddedInOrder.{attribute_meant, value_meant}
+use Rattle.dwc_unit.proofs.ReadValues.{All-back, All-front}
+use Rattle.dwc_unit.proofs.AddedInOrderUnits.{last-set}
+use Rattle.dwc_unit.proofs.AddedInOrderValues.{attributes-meant-more, set-meant}
+use Rattle.dwc_source.specs.declared.source.CloneSource.{CloneSource}
+use Rattle.dwc_source.specs.MadeValues.{ArePlaced, Grows, HasTexts, RefusesSo, SaysMore, wanted_value}
+use Rattle.dwc_clone.specs.ClonedUnits.{TellsFirst}
+use Rattle.dwc_extents.specs.CodeSources.{clone_rules}
 use Rattle.dwc_clone.specs.ClonedEntries.{AreSet, IsGiven, IsLast, KeepsNames, Tell, set_behind, told_draft, values_refused, values_wanted, with_made}
 
 -- ---- tables of texts
@@ -149,10 +150,6 @@ before-next xs i number d all before is at within so =
     ∙ ap (λ a. take i (map attribute_view xs) ++ a ∷ []) (sym (get_or-map attribute_view xs i d (attribute_view d) within))
     ∙ sym (take_more (map attribute_view xs) i (attribute_view d) (subst (λ n. i < n) (sym (length-map xs attribute_view)) within))
     ∙ ap₂ (λ n all. take (n + 1) all) (sym at) is
-
--- There are as many of them as its number says.
-pub before-many : (all before : List (ℕ × Value)) (number : ℕ) → before ≡ take number all → number < length all → length before ≡ number
-before-many all before number is within = ap length is ∙ length-take-le number all (omega (arith, within))
 
 -- What is set of the attributes of an entry behind so many: what was set so far, and what the attributes that are left are to say, make all.
 pub record AreSetSoFar (goals : Goal → Option (ℕ × ℕ)) (tell : Tell) (registers : Registers) (c : CloneSource) (number : ℕ) (s : UnitSource) (p : Placed) (t0 t1 : List (List ℕ)) (base : GivenUnit) (e : Addition) (u : GivenUnit) (seen : ℕ) (left : List (ℕ × Value)) : Type 0 where

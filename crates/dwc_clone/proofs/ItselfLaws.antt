@@ -9,19 +9,20 @@ use Rattle.dwc_rules.specs.EntryRules.{of_build, wrappers_of}
 use Rattle.dwc_rules.specs.Refusals.{Refusal, of_place}
 use Rattle.dwc_rules.specs.TypeNames.{type_name}
 use Rattle.dwc_rules.specs.Wrappers.{is_wrapped, name_fault, wrapper_refusals}
-use Rattle.dwc_clif.specs.Registers.{Registers}
+use Rattle.dwc_isa.specs.Registers.{Registers}
 use Rattle.std.specs.Prelude.{take}
 use Rattle.dwc_rules.specs.Drafts.{Goal}
-use Rattle.dwc_write.specs.declared.units.UnitEntryId.{UnitEntryId}
-use Rattle.dwc_write.specs.GivenUnits.{Addition, GivenUnit}
+use Rattle.dwc_unit.specs.declared.units.UnitEntryId.{UnitEntryId}
+use Rattle.dwc_unit.specs.GivenUnits.{Addition, GivenUnit}
 use Rattle.dwc_clone.specs.declared.entry.PlacedEntry.{PlacedEntry}
-use Rattle.dwc_clone.specs.declared.error.CloneError.{CloneError}
-use Rattle.dwc_clone.specs.Errors.{refusal_told}
-use Rattle.dwc_clone.specs.MadeValues.{Grows}
+use Rattle.dwc_source.specs.declared.error.CloneError.{CloneError}
+use Rattle.dwc_source.specs.Errors.{refusal_told}
+use Rattle.dwc_source.specs.MadeValues.{Grows}
 use Rattle.dwc_clone.specs.ContextPlaces.{AddsVariable, HasVariable}
 use Rattle.dwc_clone.specs.PlainEntries.{GivesItself, values_whole}
-use Rattle.dwc_clone.specs.declared.source.CloneSource.{CloneSource}
-use Rattle.dwc_clone.specs.ClonedUnits.{TellsFirst, clone_rules, source_with}
+use Rattle.dwc_source.specs.declared.source.CloneSource.{CloneSource}
+use Rattle.dwc_clone.specs.ClonedUnits.{TellsFirst}
+use Rattle.dwc_extents.specs.CodeSources.{clone_rules, source_with}
 use Rattle.dwc_clone.specs.ClonedEntries.{IsGiven, values_refused}
 
 pub tells-front : (xs ys : List Refusal) (told : Option Refusal) → TellsFirst xs told → TellsFirst (xs ++ ys) told

@@ -16,7 +16,7 @@ use Rattle.dwc_base.specs.Listing.{first_of}
 use Rattle.dwc_rules.specs.Scopes.{Given, IsWalk, Rises, Steps, base_given, frame_in_force, given_by, lineage, lineage_of, nearest, scope_given, scope_in_force}
 use Rattle.dwc_rules.proofs.StackLaws.{top-in-force}
 use Rattle.dwc_rules.proofs.StackWalks.{stack-follows}
-use Rattle.dwc_clone.specs.Lineages.{AreInForce, Stacks, WalkIsInForce, entered, frame_given, given_on, no_stacks, with_entries, with_entry, with_given}
+use Rattle.dwc_extents.specs.Lineages.{AreInForce, Stacks, WalkIsInForce, entered, frame_given, given_on, no_stacks, with_entries, with_entry, with_given}
 use Rattle.dwc_clone.proofs.WalkBegins.{first-is-root}
 
 -- ---- one stack

@@ -1,12 +1,12 @@
 -- Entries that are made: they are there, and those that were stay so.
 use Rattle.std.proofs.Common.{ℕ, List, [], ◌∷◌, length, true, Option, Some, None}
 use Rattle.dwc_base.specs.declared.constants.TheConstants.{DW_AT_artificial, DW_AT_data_member_location, DW_AT_linkage_name, DW_AT_name, DW_AT_type, DW_FORM_data1, DW_TAG_formal_parameter, DW_TAG_member, DW_TAG_subprogram, DW_TAG_template_type_parameter}
-use Rattle.dwc_write.specs.declared.attributes.AttributeValue.TheVariants.{UnitRef}
-use Rattle.dwc_write.specs.declared.attributes.DebugInfoRef.{DebugInfoRef}
-use Rattle.dwc_write.specs.declared.strings.StringId.{StringId}
-use Rattle.dwc_write.specs.declared.units.UnitEntryId.{UnitEntryId}
-use Rattle.dwc_write.specs.GivenUnits.{GivenUnit, IsAdded, with_child, with_next, with_value}
-use Rattle.dwc_write.proofs.NumberLaws.{added-on-child, added-on-next, added-on-value}
+use Rattle.dwc_unit.specs.declared.attributes.AttributeValue.TheVariants.{UnitRef}
+use Rattle.dwc_unit.specs.declared.attributes.DebugInfoRef.{DebugInfoRef}
+use Rattle.dwc_unit.specs.declared.strings.StringId.{StringId}
+use Rattle.dwc_unit.specs.declared.units.UnitEntryId.{UnitEntryId}
+use Rattle.dwc_unit.specs.GivenUnits.{GivenUnit, IsAdded, with_child, with_next, with_value}
+use Rattle.dwc_unit.proofs.NumberLaws.{added-on-child, added-on-next, added-on-value}
 use Rattle.dwc_clone.specs.declared.made.MadeValue.{MadeValue}
 use Rattle.dwc_clone.specs.declared.made.MadeValue.TheVariants.{Text, Constant, Flag, Entry, AnyEntry}
 use Rattle.dwc_clone.specs.declared.wrapper.OpenWrapper.{OpenWrapper}

@@ -6,11 +6,11 @@ use Rattle.std.proofs.lemmas.List.Elements.{All-weaker}
 use Rattle.dwc_base.specs.declared.constants.TheConstants.{DW_AT_location, DW_AT_name, DW_AT_type, DW_TAG_variable}
 use Rattle.dwc_native.specs.BuiltExpressions.{BuildRefusal}
 use Rattle.dwc_dwarf.specs.Trees.{Location}
-use Rattle.dwc_write.specs.declared.attributes.AttributeValue.TheVariants.{DebugInfoRef as Reference, LocationListRef, StringRef}
-use Rattle.dwc_write.specs.declared.attributes.DebugInfoRef.{DebugInfoRef}
-use Rattle.dwc_write.specs.declared.units.UnitEntryId.{UnitEntryId}
-use Rattle.dwc_write.specs.GivenUnits.{GivenUnit, IsAdded, place_of, with_child, with_known, with_next, with_value}
-use Rattle.dwc_write.proofs.NumberLaws.{added-on-child, added-on-known, added-on-next, child-places, reserved-on-child, reserved-on-known, reserved-on-next, value-places}
+use Rattle.dwc_unit.specs.declared.attributes.AttributeValue.TheVariants.{DebugInfoRef as Reference, LocationListRef, StringRef}
+use Rattle.dwc_unit.specs.declared.attributes.DebugInfoRef.{DebugInfoRef}
+use Rattle.dwc_unit.specs.declared.units.UnitEntryId.{UnitEntryId}
+use Rattle.dwc_unit.specs.GivenUnits.{GivenUnit, IsAdded, place_of, with_child, with_known, with_next, with_value}
+use Rattle.dwc_unit.proofs.NumberLaws.{added-on-child, added-on-known, added-on-next, child-places, reserved-on-child, reserved-on-known, reserved-on-next, value-places}
 use Rattle.dwc_clone.specs.declared.entry.PlacedEntry.{PlacedEntry}
 use Rattle.dwc_clone.specs.declared.wrapper.OpenWrapper.{OpenWrapper}
 use Rattle.dwc_clone.specs.ClonedEntries.{AddsBelow, AreKnown}

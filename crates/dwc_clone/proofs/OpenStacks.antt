@@ -7,13 +7,14 @@ use Rattle.dwc_rules.specs.Clones.{UnitSource}
 use Rattle.dwc_rules.specs.Drafts.{Draft, Goal, Role}
 use Rattle.dwc_rules.specs.EntryRules.{wrappers_of}
 use Rattle.dwc_rules.specs.Wrappers.{WrapperSource, left_open, types_closed, wrapper_types}
-use Rattle.dwc_clif.specs.Registers.{Registers}
-use Rattle.dwc_write.specs.GivenUnits.{GivenUnit}
-use Rattle.dwc_clone.specs.declared.source.CloneSource.{CloneSource}
+use Rattle.dwc_isa.specs.Registers.{Registers}
+use Rattle.dwc_unit.specs.GivenUnits.{GivenUnit}
+use Rattle.dwc_source.specs.declared.source.CloneSource.{CloneSource}
 use Rattle.dwc_clone.specs.declared.wrapper.OpenWrapper.{OpenWrapper}
-use Rattle.dwc_clone.specs.ClonedUnits.{draft_depths, goal_number, source_with}
+use Rattle.dwc_clone.specs.ClonedUnits.{draft_depths, goal_number}
+use Rattle.dwc_extents.specs.CodeSources.{source_with}
 use Rattle.dwc_clone.specs.OpenWrappers.{CanCloseAll, closed_from, still_open, types_added}
-use Rattle.dwc_clone.specs.Sources.{IsSource}
+use Rattle.dwc_source.specs.Sources.{IsSource}
 use Rattle.dwc_clone.specs.BuiltUnits.{AreOpen, IsDrafted, IsOpen}
 use Rattle.dwc_clone.proofs.DraftedUnits.{Extends, extends-less, extends-not, last-extended}
 use Rattle.dwc_clone.proofs.DraftSteps.{Adds, adds-on}

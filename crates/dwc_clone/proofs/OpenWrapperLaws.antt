@@ -5,10 +5,10 @@ use Rattle.std.specs.Option.{unwrap_or}
 use Rattle.std.proofs.lemmas.List.{length-set, reverse-append}
 use Rattle.std.proofs.lemmas.Option.{slice_get-get_or, slice_get_within}
 use Rattle.dwc_base.specs.declared.constants.TheConstants.{DW_AT_type, DW_TAG_pointer_type, DW_TAG_reference_type}
-use Rattle.dwc_write.specs.declared.attributes.AttributeValue.TheVariants.{UnitRef}
-use Rattle.dwc_write.specs.declared.units.UnitEntryId.{UnitEntryId}
-use Rattle.dwc_write.specs.GivenUnits.{GivenUnit, IsAdded, IsReserved, with_child, with_known}
-use Rattle.dwc_write.proofs.NumberLaws.{added-on-child, added-on-known, added-on-value, child-places, known-same, reserved-on-child, reserved-on-known, reserved-on-value, value-places}
+use Rattle.dwc_unit.specs.declared.attributes.AttributeValue.TheVariants.{UnitRef}
+use Rattle.dwc_unit.specs.declared.units.UnitEntryId.{UnitEntryId}
+use Rattle.dwc_unit.specs.GivenUnits.{GivenUnit, IsAdded, IsReserved, with_child, with_known}
+use Rattle.dwc_unit.proofs.NumberLaws.{added-on-child, added-on-known, added-on-value, child-places, known-same, reserved-on-child, reserved-on-known, reserved-on-value, value-places}
 use Rattle.dwc_clone.specs.declared.wrapper.OpenWrapper.{OpenWrapper}
 use Rattle.dwc_clone.specs.OpenWrappers.{CanClose, CanCloseAll, IsOther, closed_from, still_open, types_added, with_typed}
 

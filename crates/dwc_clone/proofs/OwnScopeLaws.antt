@@ -7,8 +7,8 @@ use Rattle.dwc_native.specs.Functions.{Function}
 use Rattle.dwc_rules.specs.RangeAttributes.{begun_function, extent}
 use Rattle.dwc_dwarf.specs.RawLists.{ListSource}
 use Rattle.dwc_rules.specs.Scopes.{Given, left_for, scope_given, scope_of_extent, source_range, top_at}
-use Rattle.dwc_clone.specs.Lineages.{HasOwnScope, Stacks, entered, own_scope, with_entry}
-use Rattle.dwc_clone.specs.ReadExtents.{IsScopeOf}
+use Rattle.dwc_extents.specs.Lineages.{HasOwnScope, Stacks, entered, own_scope, with_entry}
+use Rattle.dwc_extents.specs.ReadExtents.{IsScopeOf}
 use Rattle.dwc_clone.proofs.StackDepths.{top-left, top-push}
 
 -- What is on top of a stack at a depth, where nothing under it is of that depth, is what was put there.

@@ -11,7 +11,7 @@ use Rattle.dwc_base.specs.Listing.{first_of}
 use Rattle.dwc_rules.specs.Scopes.{Rises}
 use Rattle.dwc_base.proofs.InLists.{IsIn, in-filter}
 use Rattle.dwc_rules.proofs.StackWalks.{Falls, low_after, nearest_above, unwind}
-use Rattle.dwc_clone.specs.declared.source.CloneSource.{CloneSource}
+use Rattle.dwc_source.specs.declared.source.CloneSource.{CloneSource}
 use Rattle.dwc_clone.specs.ClonedUnits.{placed_in}
 use Rattle.dwc_clone.specs.ParameterContexts.{Contexts, with_context, with_contexts}
 use Rattle.dwc_clone.proofs.BackwardWalks.{falls, falls-below, parent-is}

@@ -24,15 +24,14 @@ use Rattle.dwc_read.specs.Lone.{lone_entry, unread_from}
 use Rattle.dwc_kept.specs.ReadEntries.{named_offset}
 use Rattle.dwc_clone.specs.declared.object_pointer.SubprogramContext.{SubprogramContext}
 use Rattle.dwc_clone.specs.declared.object_pointer.Telling.TheVariants.{Plain, Function, ObjectPointer}
-use Rattle.dwc_clone.specs.declared.source.CloneSource.{CloneSource}
-use Rattle.dwc_clone.specs.ClonedEntries.{placed_entry}
+use Rattle.dwc_source.specs.declared.source.CloneSource.{CloneSource}
+use Rattle.dwc_source.specs.Sources.{placed_entry, AreEmitted, IsEmitted, IsSource}
 use Rattle.dwc_clone.specs.ClonedUnits.{placed_in}
-use Rattle.dwc_clone.specs.Lineages.{AreWalked}
-use Rattle.dwc_clone.specs.OutputPlaces.{place_of}
+use Rattle.dwc_extents.specs.Lineages.{AreWalked}
+use Rattle.dwc_source.specs.OutputPlaces.{place_of}
 use Rattle.dwc_clone.specs.ParameterContexts.{Contexts, context_given, contexts_behind, is_first, met, points_by, told_behind, with_context, with_contexts}
-use Rattle.dwc_clone.specs.Sources.{AreEmitted, IsEmitted, IsSource}
 use Rattle.dwc_clone.specs.Tellings.{telling_of}
-use Rattle.dwc_clone.specs.TypeChains.{offset_in_unit}
+use Rattle.dwc_types.specs.TypeChains.{offset_in_unit}
 use Rattle.dwc_clone.proofs.BackwardWalks.{parent-is, steps-back}
 use Rattle.dwc_clone.proofs.ParameterFinds.{Stands, above-at, first-is, stands}
 use Rattle.dwc_clone.proofs.ParameterWalks.{Tells, TellsIf, is_parameter, met_above, none-behind, parameter-has-none, stack_behind, tells-above, told_above, top-told}

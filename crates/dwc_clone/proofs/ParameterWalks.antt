@@ -13,8 +13,8 @@ use Rattle.dwc_rules.specs.Scopes.{left_for, top_at}
 use Rattle.dwc_dwarf.specs.Values.{is_one_of}
 use Rattle.dwc_rules.proofs.StackWalks.{StepsBack, deepest_after, nearest_above}
 use Rattle.dwc_clone.specs.declared.object_pointer.SubprogramContext.{SubprogramContext}
-use Rattle.dwc_clone.specs.declared.source.CloneSource.{CloneSource}
-use Rattle.dwc_clone.specs.ClonedEntries.{placed_entry}
+use Rattle.dwc_source.specs.declared.source.CloneSource.{CloneSource}
+use Rattle.dwc_source.specs.Sources.{placed_entry}
 use Rattle.dwc_clone.specs.ParameterContexts.{Contexts, context_given, met, met_at, next_number, with_context}
 use Rattle.dwc_clone.proofs.StackDepths.{left-again, left-lower, left-met, left-push-high, left-push-low, met-left, top-left, top-met, top-push}
 

@@ -1,12 +1,11 @@
 -- What an entry that is not wrapped is to say, and the variable of the context behind it.
 use Rattle.std.proofs.Common.{◌≡◌, ℕ, refl, sym, ap, ap₂, ◌∙◌, List, [], ◌∷◌, ◌++◌, map, Bool, true, false, Option, Some, None}
-use Rattle.std.specs.Prelude.{◌==◌, ◌&&◌, filter_map, if◌then◌else◌}
+use Rattle.std.specs.Prelude.{◌==◌, ◌&&◌, filter_map, if◌then◌else◌, pos}
 use Rattle.std.specs.List.{cons_option}
 use Rattle.std.proofs.lemmas.List.Elements.{filter_map-append}
 use Rattle.dwc_base.specs.declared.constants.TheConstants.{DW_AT_endianity, DW_AT_high_pc, DW_AT_low_pc, DW_AT_ranges, DW_END_little, DW_FORM_data1, DW_FORM_udata, DW_TAG_base_type, DW_TAG_compile_unit}
 use Rattle.dwc_base.specs.declared.records.Address.TheVariants.{Symbol}
 use Rattle.dwc_base.specs.declared.records.Address.{Address}
-use Rattle.std.specs.Prelude.{pos}
 use Rattle.dwc_native.specs.Functions.{Function}
 use Rattle.dwc_dwarf.specs.RawLists.{ListSource}
 use Rattle.dwc_dwarf.specs.Entries.{Entry}
@@ -22,11 +21,11 @@ use Rattle.dwc_rules.specs.Drafts.{DraftValue, Goal, done}
 use Rattle.dwc_rules.specs.DraftForests.{settled, settled_entry}
 use Rattle.dwc_rules.specs.EntryRules.{wrappers_of}
 use Rattle.dwc_rules.specs.ObjectPointers.{has_parameters, is_object_pointer, names_no_pointer, pointers_changed, unlike_this}
-use Rattle.dwc_clif.specs.Registers.{Registers}
+use Rattle.dwc_isa.specs.Registers.{Registers}
 use Rattle.dwc_clone.specs.declared.object_pointer.Telling.{Telling}
 use Rattle.dwc_clone.specs.declared.object_pointer.Telling.TheVariants.{Function as OfFunction, ObjectPointer, Plain}
-use Rattle.dwc_clone.specs.declared.source.CloneSource.{CloneSource}
-use Rattle.dwc_clone.specs.ClonedUnits.{clone_rules, source_with}
+use Rattle.dwc_source.specs.declared.source.CloneSource.{CloneSource}
+use Rattle.dwc_extents.specs.CodeSources.{clone_rules, source_with}
 use Rattle.dwc_clone.specs.ClonedEntries.{Tell, set_behind, values_wanted}
 use Rattle.dwc_dwarf.specs.Texts.{TextSource}
 use Rattle.dwc_clone.specs.PlainEntries.{values_whole}

@@ -10,10 +10,10 @@ use Rattle.dwc_dwarf.specs.Trees.{TreeValue, entry}
 use Rattle.dwc_rules.specs.Drafts.{itself, Goal, made_of, goes_to}
 use Rattle.dwc_rules.specs.Clones.{UnitSource, reference_becomes}
 use Rattle.dwc_kept.specs.ReadEntries.{named_offset}
-use Rattle.dwc_clone.specs.declared.source.CloneSource.{CloneSource}
-use Rattle.dwc_clone.specs.OutputPlaces.{place_of}
-use Rattle.dwc_clone.specs.Sources.{IsSource}
-use Rattle.dwc_clone.specs.MadeValues.{ArePlaced, Says, wanted_value, own_reference, any_reference, target_place}
+use Rattle.dwc_source.specs.declared.source.CloneSource.{CloneSource}
+use Rattle.dwc_source.specs.OutputPlaces.{place_of}
+use Rattle.dwc_source.specs.Sources.{IsSource}
+use Rattle.dwc_source.specs.MadeValues.{ArePlaced, Says, wanted_value, own_reference, any_reference, target_place}
 
 -- what a reference to an entry at a place says
 abbrev entry_at : ℕ × ℕ → TreeValue

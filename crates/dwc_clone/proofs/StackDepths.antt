@@ -4,10 +4,10 @@ use Rattle.std.specs.Prelude.{◌&&◌, if◌then◌else◌, option_and_then}
 use Rattle.std.proofs.lemmas.Bool.{le-leb}
 use Rattle.std.proofs.lemmas.Int.{ints}
 use Rattle.dwc_rules.specs.Scopes.{Given, left_for, left_under, top_at}
-use Rattle.dwc_base.proofs.Translated.{last_of-push}
+use Rattle.dwc_base.proofs.LastOf.{last_of-push}
 use Rattle.dwc_clone.specs.declared.object_pointer.SubprogramContext.{SubprogramContext}
 use Rattle.dwc_clone.specs.ParameterContexts.{Contexts, met, met_at}
-use Rattle.dwc_clone.specs.StacksByDepth.{with_top}
+use Rattle.dwc_extents.specs.StacksByDepth.{with_top}
 
 -- ---- what is left of a stack
 

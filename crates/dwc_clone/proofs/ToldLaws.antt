@@ -35,20 +35,20 @@ use Rattle.dwc_rules.specs.Wrappers.{is_wrapped}
 use Rattle.dwc_dwarf.specs.Values.{Value, is_location_name}
 use Rattle.dwc_base.proofs.InLists.{IsIn, any-in, in-any, in-contains}
 use Rattle.std.specs.Option.{unwrap_or}
-use Rattle.dwc_clif.specs.Registers.{Registers}
+use Rattle.dwc_isa.specs.Registers.{Registers}
 use Rattle.dwc_read.specs.Faults.{Refuses}
 use Rattle.dwc_kept.specs.ReadEntries.{named_offset}
-use Rattle.dwc_write.specs.declared.attributes.AttributeValue.{AttributeValue}
+use Rattle.dwc_unit.specs.declared.attributes.AttributeValue.{AttributeValue}
 use Rattle.dwc_clone.specs.declared.object_pointer.Telling.{Telling}
 use Rattle.dwc_clone.specs.declared.object_pointer.Telling.TheVariants as telling
-use Rattle.dwc_clone.specs.declared.source.CloneSource.{CloneSource}
+use Rattle.dwc_source.specs.declared.source.CloneSource.{CloneSource}
 use Rattle.dwc_clone.specs.ClonedEntries.{KeepsNames, told_draft}
-use Rattle.dwc_clone.specs.ClonedUnits.{clone_rules, source_with}
-use Rattle.dwc_clone.specs.MadeValues.{ArePlaced, RefusesSo, SaysMore, wanted_value}
-use Rattle.dwc_clone.specs.OutputPlaces.{place_of}
-use Rattle.dwc_clone.specs.Sources.{IsSource, is_within}
+use Rattle.dwc_extents.specs.CodeSources.{clone_rules, source_with}
+use Rattle.dwc_source.specs.MadeValues.{ArePlaced, RefusesSo, SaysMore, wanted_value}
+use Rattle.dwc_source.specs.OutputPlaces.{place_of}
+use Rattle.dwc_source.specs.Sources.{IsSource, is_within}
 use Rattle.dwc_clone.specs.Tellings.{is_in_unit, names_within, tell_of}
-use Rattle.dwc_clone.proofs.LocationsFit.{OfAnswered}
+use Rattle.dwc_extents.proofs.LocationsFit.{OfAnswered}
 use Rattle.dwc_clone.proofs.ValueLaws.{attribute-value}
 
 -- ---- values that are no texts and go nowhere

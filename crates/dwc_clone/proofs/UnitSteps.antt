@@ -14,30 +14,31 @@ use Rattle.dwc_rules.specs.Drafts.{Role}
 use Rattle.dwc_rules.specs.EntryRules.{wrappers_of}
 use Rattle.dwc_rules.specs.Refusals.{Refusal}
 use Rattle.dwc_rules.specs.Wrappers.{WrapperSource, closing, entries_made, types_closed, wrapper_types}
-use Rattle.dwc_clif.specs.Registers.{Registers}
+use Rattle.dwc_isa.specs.Registers.{Registers}
 use Rattle.dwc_kept.specs.KeptUnits.{IsTree}
 use Rattle.dwc_read.specs.declared.fault.ReadFault.{ReadFault}
 use Rattle.dwc_read.specs.declared.fault.ReadFault.TheVariants.{OutOfMemory, Read, Unsupported}
 use Rattle.dwc_read.specs.Faults.{RefusesNext}
 use Rattle.dwc_read.specs.Places.{GoesOn}
-use Rattle.dwc_write.specs.declared.units.UnitEntryId.{UnitEntryId}
-use Rattle.dwc_write.specs.GivenLines.{GivenLines}
-use Rattle.dwc_write.specs.GivenUnits.{GivenUnit, IsAdded, IsPlaceBelow, IsReserved, new_unit, place_of, with_reserved}
-use Rattle.dwc_write.specs.Renumbered.{LeadsToEntries}
-use Rattle.dwc_write.specs.AddedInOrder.{with_last}
-use Rattle.dwc_write.proofs.NumberLaws.{leads-reserved, reserved-new, reserved-on-reserved, reserved-place}
-use Rattle.dwc_clone.specs.declared.source.CloneSource.{CloneSource}
-use Rattle.dwc_clone.specs.declared.type_name.TypeNames.{TypeNames}
+use Rattle.dwc_unit.specs.declared.units.UnitEntryId.{UnitEntryId}
+use Rattle.dwc_unit.specs.GivenLines.{GivenLines}
+use Rattle.dwc_unit.specs.GivenUnits.{GivenUnit, IsAdded, IsPlaceBelow, IsReserved, new_unit, place_of, with_reserved}
+use Rattle.dwc_unit.specs.Renumbered.{LeadsToEntries}
+use Rattle.dwc_unit.specs.AddedInOrder.{with_last}
+use Rattle.dwc_unit.proofs.NumberLaws.{leads-reserved, reserved-new, reserved-on-reserved, reserved-place}
+use Rattle.dwc_source.specs.declared.source.CloneSource.{CloneSource}
+use Rattle.dwc_types.specs.declared.type_name.TypeNames.{TypeNames}
 use Rattle.dwc_clone.specs.declared.wrapper.OpenWrapper.{OpenWrapper}
-use Rattle.dwc_clone.specs.Errors.{of_reading, refusal_told}
+use Rattle.dwc_source.specs.Errors.{of_reading, refusal_told}
 use Rattle.dwc_clone.specs.BuiltUnits.{AreBuilt, AreClonedSoFar, AreRoles, BuiltSoFar, IsDrafted, drafts_left, rootless}
-use Rattle.dwc_clone.specs.ClonedUnits.{AreClonable, IsCloned, TellsFirst, clone_drafts, clone_refusals, clone_rules, depths_of, goal_number, picked, placed_in, source_with}
-use Rattle.dwc_clone.specs.ClonedEntries.{CanAdd, CanFollow, placed_entry}
-use Rattle.dwc_clone.specs.KnownNames.{KnowsNames}
-use Rattle.dwc_clone.specs.Lineages.{Stacks, no_stacks}
+use Rattle.dwc_clone.specs.ClonedUnits.{AreClonable, IsCloned, TellsFirst, clone_drafts, clone_refusals, depths_of, goal_number, picked, placed_in}
+use Rattle.dwc_extents.specs.CodeSources.{clone_rules, source_with}
+use Rattle.dwc_clone.specs.ClonedEntries.{CanAdd, CanFollow}
+use Rattle.dwc_source.specs.Sources.{placed_entry, IsSource}
+use Rattle.dwc_types.specs.KnownNames.{KnowsNames}
+use Rattle.dwc_extents.specs.Lineages.{Stacks, no_stacks}
 use Rattle.dwc_clone.specs.OpenWrappers.{CanCloseAll, closed_from, reserved_more}
 use Rattle.dwc_clone.specs.ParameterContexts.{Contexts}
-use Rattle.dwc_clone.specs.Sources.{IsSource}
 use Rattle.dwc_clone.proofs.ClonedSteps.{cloned-refused}
 use Rattle.dwc_clone.proofs.EntryValues.{grows-not}
 use Rattle.dwc_clone.proofs.OpenStacks.{Closes, closes}

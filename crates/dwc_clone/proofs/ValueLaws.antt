@@ -18,10 +18,10 @@ use Rattle.dwc_rules.specs.Clones.{CodeRules, UnitSource, attribute_becomes, bou
 use Rattle.dwc_read.specs.declared.value.AttributeValue.TheVariants as input
 use Rattle.dwc_read.specs.declared.value.AttributeValue as values
 use Rattle.dwc_read.specs.ValuesSeen.{value_view}
-use Rattle.dwc_write.specs.declared.attributes.AttributeValue.{AttributeValue}
-use Rattle.dwc_clone.specs.declared.places.EmittedEntry.{EmittedEntry}
-use Rattle.dwc_clone.specs.MadeValues.{IsMade, Says, SaysMore}
-use Rattle.dwc_clone.proofs.TextLaws.{Grows-same}
+use Rattle.dwc_unit.specs.declared.attributes.AttributeValue.{AttributeValue}
+use Rattle.dwc_source.specs.declared.places.EmittedEntry.{EmittedEntry}
+use Rattle.dwc_source.specs.MadeValues.{IsMade, Says, SaysMore}
+use Rattle.dwc_source.proofs.TextLaws.{Grows-same}
 
 -- What is made says what is to be said, and no text is added.
 pub made-same : (places : List EmittedEntry) (number name : ℕ) (table : List (List ℕ)) (read : Result (Option DraftValue) Refusal) (draft : Option DraftValue) (v : Option AttributeValue) → read ≡ Ok draft → Says places number name table draft v → IsMade (SaysMore places number name table table) read v

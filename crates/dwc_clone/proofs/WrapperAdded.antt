@@ -5,12 +5,12 @@ use Rattle.std.proofs.lemmas.List.Elements.{All-take, All-weaker}
 use Rattle.std.proofs.lemmas.List.{length-set}
 use Rattle.std.proofs.lemmas.Option.{get_or_from_slice_get, slice_get_within}
 use Rattle.dwc_base.specs.declared.constants.TheConstants.{DW_AT_artificial, DW_AT_byte_size, DW_AT_data_member_location, DW_AT_linkage_name, DW_AT_name, DW_AT_type, DW_FORM_data1, DW_TAG_formal_parameter, DW_TAG_member, DW_TAG_subprogram, DW_TAG_template_type_parameter}
-use Rattle.dwc_write.specs.declared.attributes.AttributeValue.TheVariants.{UnitRef}
-use Rattle.dwc_write.specs.declared.attributes.DebugInfoRef.{DebugInfoRef}
-use Rattle.dwc_write.specs.declared.strings.StringId.{StringId}
-use Rattle.dwc_write.specs.declared.units.UnitEntryId.{UnitEntryId}
-use Rattle.dwc_write.specs.GivenUnits.{GivenUnit, IsAdded, IsReserved, with_child, with_known, with_next, with_reserved, with_value}
-use Rattle.dwc_write.proofs.NumberLaws.{added-on-child, added-on-known, added-on-reserved, child-places, reserved-new, reserved-on-child, reserved-on-known, reserved-on-next, reserved-on-reserved, reserved-on-value}
+use Rattle.dwc_unit.specs.declared.attributes.AttributeValue.TheVariants.{UnitRef}
+use Rattle.dwc_unit.specs.declared.attributes.DebugInfoRef.{DebugInfoRef}
+use Rattle.dwc_unit.specs.declared.strings.StringId.{StringId}
+use Rattle.dwc_unit.specs.declared.units.UnitEntryId.{UnitEntryId}
+use Rattle.dwc_unit.specs.GivenUnits.{GivenUnit, IsAdded, IsReserved, with_child, with_known, with_next, with_reserved, with_value}
+use Rattle.dwc_unit.proofs.NumberLaws.{added-on-child, added-on-known, added-on-reserved, child-places, reserved-new, reserved-on-child, reserved-on-known, reserved-on-next, reserved-on-reserved, reserved-on-value}
 use Rattle.dwc_clone.specs.declared.entry.PlacedEntry.{PlacedEntry}
 use Rattle.dwc_clone.specs.declared.made.MadeValue.{MadeValue}
 use Rattle.dwc_clone.specs.declared.made.MadeValue.TheVariants.{Text, Constant, Flag, Entry, AnyEntry}

@@ -5,26 +5,26 @@ use Rattle.dwc_base.specs.declared.constants.TheConstants.{DW_AT_artificial, DW_
 use Rattle.dwc_rules.specs.Kept.{Placed}
 use Rattle.dwc_rules.specs.Clones.{UnitSource}
 use Rattle.dwc_dwarf.specs.Trees as trees
-use Rattle.dwc_rules.specs.Drafts.{Draft, Goal, Role, goes_to, itself, made_of, own_entry, pointer_to_target, pointer_to_wrapper, reference_to_target}
+use Rattle.dwc_rules.specs.Drafts.{Draft, Goal, Role, goes_to, itself, made_of, synthetic_entry, pointer_to_target, pointer_to_wrapper, reference_to_target}
 use Rattle.dwc_rules.specs.MadeEntries.{data1, made, named}
 use Rattle.dwc_rules.specs.TypeNames as definitions
 use Rattle.dwc_rules.specs.Wrappers.{beside, method, name_or_unknown, target_type, type_made, wrapper, wrapper_name, wrapper_types}
-use Rattle.dwc_clif.specs.Registers.{Registers}
-use Rattle.dwc_write.specs.declared.strings.StringId.{StringId}
-use Rattle.dwc_write.specs.declared.units.UnitEntryId.{UnitEntryId}
-use Rattle.dwc_write.specs.GivenUnits.{GivenUnit, IsReserved, place_of, with_child, with_known, with_places, with_reserved}
-use Rattle.dwc_write.proofs.NumberLaws.{child-last, known-same, leads-known, leads-reserved, place-reserved}
+use Rattle.dwc_isa.specs.Registers.{Registers}
+use Rattle.dwc_unit.specs.declared.strings.StringId.{StringId}
+use Rattle.dwc_unit.specs.declared.units.UnitEntryId.{UnitEntryId}
+use Rattle.dwc_unit.specs.GivenUnits.{GivenUnit, IsReserved, place_of, with_child, with_known, with_places, with_reserved}
+use Rattle.dwc_unit.proofs.NumberLaws.{child-last, known-same, leads-known, leads-reserved, place-reserved}
 use Rattle.dwc_clone.specs.declared.made.MadeValue.{MadeValue}
 use Rattle.dwc_clone.specs.declared.made.MadeValue.TheVariants.{AnyEntry, Constant, Entry, Flag, Text}
-use Rattle.dwc_clone.specs.declared.source.CloneSource.{CloneSource}
+use Rattle.dwc_source.specs.declared.source.CloneSource.{CloneSource}
 use Rattle.dwc_clone.specs.declared.wrapper.OpenWrapper.{OpenWrapper}
 use Rattle.dwc_clone.specs.declared.wrapper.WrapperTexts.{WrapperTexts}
 use Rattle.dwc_clone.specs.MadeAttributes.{with_made_entry, with_values}
 use Rattle.dwc_clone.specs.ClonedUnits.{draft_depths}
 use Rattle.dwc_clone.specs.ClonedEntries.{IsLastAt}
-use Rattle.dwc_clone.specs.KnownTexts.{IsNumbered}
+use Rattle.dwc_source.specs.KnownTexts.{IsNumbered}
 use Rattle.dwc_clone.specs.OpenWrappers.{CanClose, HasWrapperTexts, members_added, method_added, types_added, with_type, with_typed, wrapper_added}
-use Rattle.dwc_clone.specs.Sources.{IsSource}
+use Rattle.dwc_source.specs.Sources.{IsSource}
 use Rattle.dwc_clone.specs.WrappedEntries.{target_id}
 use Rattle.dwc_clone.specs.BuiltUnits.{HasRoles, IsDrafted}
 use Rattle.dwc_clone.proofs.DraftedUnits.{Extends, KeepsPlaces, drafted-more, extended, last-extended, last-here, unit_behind}
@@ -89,12 +89,12 @@ module _ (registers : Registers) (c : CloneSource) (number : ℕ) (s : UnitSourc
     module _ (function name : List ℕ) (known : WrapperTexts) (has_texts : HasWrapperTexts texts from.resolve_memory name known) where
       members-add : (ds : List Draft) (u : GivenUnit) → IsDrafted at number texts ds u → LastOf ds e.entry.depth u w.wrapper
           → Added (suc e.entry.depth) ds
-          (made (suc e.entry.depth) DW_TAG_template_type_parameter (named DW_AT_name (trees.text (codes "T")) ∷ target_type from e) ∷ made (suc e.entry.depth) DW_TAG_member (named DW_AT_name (trees.text (codes "__ptr")) ∷ (DW_AT_type, goes_to (own_entry from.wasm_pointer)) ∷ named DW_AT_data_member_location (data1 0) ∷ []) ∷ [])
+          (made (suc e.entry.depth) DW_TAG_template_type_parameter (named DW_AT_name (trees.text (codes "T")) ∷ target_type from e) ∷ made (suc e.entry.depth) DW_TAG_member (named DW_AT_name (trees.text (codes "__ptr")) ∷ (DW_AT_type, goes_to (synthetic_entry from.wasm_pointer)) ∷ named DW_AT_data_member_location (data1 0) ∷ []) ∷ [])
           u (members_added w known c.wasm_ptr u)
       members-add ds u so last =
           let deep = suc e.entry.depth in
           let d1 = made deep DW_TAG_template_type_parameter (named DW_AT_name (trees.text (codes "T")) ∷ target_type from e) in
-          let d2 = made deep DW_TAG_member (named DW_AT_name (trees.text (codes "__ptr")) ∷ (DW_AT_type, goes_to (own_entry from.wasm_pointer)) ∷ named DW_AT_data_member_location (data1 0) ∷ []) in
+          let d2 = made deep DW_TAG_member (named DW_AT_name (trees.text (codes "__ptr")) ∷ (DW_AT_type, goes_to (synthetic_entry from.wasm_pointer)) ∷ named DW_AT_data_member_location (data1 0) ∷ []) in
           let u1 = with_type (length u.places) w.target (with_made_entry w.wrapper.index DW_TAG_template_type_parameter ((DW_AT_name, Text known.target) ∷ []) u) in
           let first : Added deep ds (d1 ∷ []) u u1 =
           subst (Added deep ds (d1 ∷ []) u) (type-behind w.wrapper.index DW_TAG_template_type_parameter (DW_AT_name, Text known.target) w.target u)
@@ -155,7 +155,7 @@ module _ (registers : Registers) (c : CloneSource) (number : ℕ) (s : UnitSourc
 
           behind : List Draft
           behind =
-              (made (suc e.entry.depth) DW_TAG_template_type_parameter (named DW_AT_name (trees.text (codes "T")) ∷ target_type from e) ∷ made (suc e.entry.depth) DW_TAG_member (named DW_AT_name (trees.text (codes "__ptr")) ∷ (DW_AT_type, goes_to (own_entry from.wasm_pointer)) ∷ named DW_AT_data_member_location (data1 0) ∷ []) ∷ [])
+              (made (suc e.entry.depth) DW_TAG_template_type_parameter (named DW_AT_name (trees.text (codes "T")) ∷ target_type from e) ∷ made (suc e.entry.depth) DW_TAG_member (named DW_AT_name (trees.text (codes "__ptr")) ∷ (DW_AT_type, goes_to (synthetic_entry from.wasm_pointer)) ∷ named DW_AT_data_member_location (data1 0) ∷ []) ∷ [])
               ++ (method from e (codes "ptr") pointer_to_target ++ (method from e (codes "operator*") reference_to_target ++ method from e (codes "operator->") pointer_to_target))
 
           Of : GivenUnit → Type 0
@@ -168,7 +168,7 @@ module _ (registers : Registers) (c : CloneSource) (number : ℕ) (s : UnitSourc
           whole =
               let deep = suc e.entry.depth in
               let b = with_child parent.index DW_TAG_structure_type (with_known w.wrapper.index u) in
-              let m0 : List Draft = made deep DW_TAG_template_type_parameter (named DW_AT_name (trees.text (codes "T")) ∷ target_type from e) ∷ made deep DW_TAG_member (named DW_AT_name (trees.text (codes "__ptr")) ∷ (DW_AT_type, goes_to (own_entry from.wasm_pointer)) ∷ named DW_AT_data_member_location (data1 0) ∷ []) ∷ [] in
+              let m0 : List Draft = made deep DW_TAG_template_type_parameter (named DW_AT_name (trees.text (codes "T")) ∷ target_type from e) ∷ made deep DW_TAG_member (named DW_AT_name (trees.text (codes "__ptr")) ∷ (DW_AT_type, goes_to (synthetic_entry from.wasm_pointer)) ∷ named DW_AT_data_member_location (data1 0) ∷ []) ∷ [] in
               let m1 = method from e (codes "ptr") pointer_to_target in
               let m2 = method from e (codes "operator*") reference_to_target in
               let m3 = method from e (codes "operator->") pointer_to_target in

@@ -12,24 +12,25 @@ use Rattle.dwc_dwarf.specs.Trees as trees
 use Rattle.dwc_dwarf.specs.Trees.{TreeEntry, TreeValue, entry, set_in_order}
 use Rattle.dwc_rules.specs.Clones.{UnitSource}
 use Rattle.dwc_rules.specs.EntryRules.{wrappers_of}
-use Rattle.dwc_rules.specs.Drafts.{Draft, Goal, Role, goes_to, itself, made_of, own_entry, pointer_to_wrapper}
+use Rattle.dwc_rules.specs.Drafts.{Draft, Goal, Role, goes_to, itself, made_of, synthetic_entry, pointer_to_wrapper}
 use Rattle.dwc_rules.specs.DraftForests.{settled}
 use Rattle.dwc_rules.specs.MadeEntries.{data1, made, named}
 use Rattle.dwc_rules.specs.Wrappers.{WrapperSource, beside, target_type, type_made}
-use Rattle.dwc_clif.specs.Registers.{Registers}
+use Rattle.dwc_isa.specs.Registers.{Registers}
 use Rattle.dwc_kept.specs.ReadEntries.{named_offset}
-use Rattle.dwc_write.specs.declared.strings.StringId.{StringId}
-use Rattle.dwc_write.specs.declared.units.UnitEntryId.{UnitEntryId}
-use Rattle.dwc_write.specs.AddedInOrder.{entry_meant}
-use Rattle.dwc_write.specs.UsedTexts.{text_numbered, texts_of_attributes}
+use Rattle.dwc_unit.specs.declared.strings.StringId.{StringId}
+use Rattle.dwc_unit.specs.declared.units.UnitEntryId.{UnitEntryId}
+use Rattle.dwc_unit.specs.AddedInOrder.{entry_meant}
+use Rattle.dwc_unit.specs.UsedTexts.{text_numbered, texts_of_attributes}
 use Rattle.dwc_clone.specs.declared.made.MadeValue.{MadeValue}
 use Rattle.dwc_clone.specs.declared.made.MadeValue.TheVariants.{AnyEntry, Constant, Entry, Flag, Text}
-use Rattle.dwc_clone.specs.declared.source.CloneSource.{CloneSource}
-use Rattle.dwc_clone.specs.ClonedUnits.{goal_number, source_with}
-use Rattle.dwc_clone.specs.KnownTexts.{IsNumbered}
-use Rattle.dwc_clone.specs.OutputPlaces.{place_of}
-use Rattle.dwc_clone.specs.Sources.{IsSource, own_unit_of}
-use Rattle.dwc_clone.specs.TypeChains.{offset_in_unit}
+use Rattle.dwc_source.specs.declared.source.CloneSource.{CloneSource}
+use Rattle.dwc_clone.specs.ClonedUnits.{goal_number}
+use Rattle.dwc_extents.specs.CodeSources.{source_with}
+use Rattle.dwc_source.specs.KnownTexts.{IsNumbered}
+use Rattle.dwc_source.specs.OutputPlaces.{place_of}
+use Rattle.dwc_source.specs.Sources.{IsSource, synthetic_unit_of}
+use Rattle.dwc_types.specs.TypeChains.{offset_in_unit}
 use Rattle.dwc_clone.specs.WrappedEntries.{target_id}
 use Rattle.dwc_clone.proofs.ReferenceLaws.{IsWithin, named-within}
 use Rattle.dwc_clone.proofs.DraftSteps.{Means, bare, given_in}
@@ -152,10 +153,10 @@ module _ (registers : Registers) (c : CloneSource) (number : ℕ) (s : UnitSourc
 
     -- the address
     pub address-means : (id : StringId) → IsNumbered texts (codes "__ptr") id
-        → Says DW_TAG_member ((DW_AT_name, Text id) ∷ (DW_AT_type, AnyEntry c.wasm_ptr) ∷ (DW_AT_data_member_location, Constant DW_FORM_data1 0) ∷ []) (made (suc e.entry.depth) DW_TAG_member (named DW_AT_name (trees.text (codes "__ptr")) ∷ (DW_AT_type, goes_to (own_entry ws.wasm_pointer)) ∷ named DW_AT_data_member_location (data1 0) ∷ []))
+        → Says DW_TAG_member ((DW_AT_name, Text id) ∷ (DW_AT_type, AnyEntry c.wasm_ptr) ∷ (DW_AT_data_member_location, Constant DW_FORM_data1 0) ∷ []) (made (suc e.entry.depth) DW_TAG_member (named DW_AT_name (trees.text (codes "__ptr")) ∷ (DW_AT_type, goes_to (synthetic_entry ws.wasm_pointer)) ∷ named DW_AT_data_member_location (data1 0) ∷ []))
     address-means id known = record {
       says = ap (λ r. entry_meant texts number (suc e.entry.depth) (given_in ((DW_AT_name, Text id) ∷ (DW_AT_type, AnyEntry r) ∷ (DW_AT_data_member_location, Constant DW_FORM_data1 0) ∷ []) (bare 0 DW_TAG_member))) source.address
-          ∙ ap (λ t. tree (suc e.entry.depth) DW_TAG_member ((DW_AT_name, trees.text t) ∷ (DW_AT_type, entry (own_unit_of c) ws.wasm_pointer) ∷ (DW_AT_data_member_location, data1 0) ∷ [])) known.is;
+          ∙ ap (λ t. tree (suc e.entry.depth) DW_TAG_member ((DW_AT_name, trees.text t) ∷ (DW_AT_type, entry (synthetic_unit_of c) ws.wasm_pointer) ∷ (DW_AT_data_member_location, data1 0) ∷ [])) known.is;
       names = each-all (λ n. n < length texts) (id.index ∷ []) (known.inside, tt);
     }
 

@@ -1,9 +1,7 @@
 -- The name of a wrapper, which is read behind the attributes of its entry.
-use Rattle.std.proofs.Common.{◌≡◌, ℕ, ◌<◌, refl, sym, ap, subst, ◌∙◌, append-nil, List, [], ◌∷◌, ◌++◌, map, Bool, true, false, Option, Some, None, Result, Ok, Err}
-use Rattle.std.specs.Prelude.{◌==◌, ◌||◌, codes, if◌then◌else◌, nat_lt, IfErr, OnOk}
-use Rattle.std.specs.List.{list_all}
-use Rattle.std.proofs.lemmas.Bool.{and_parts, eqb-true, ltb-true}
-use Rattle.std.proofs.lemmas.List.Elements.{All-append, All-cons, All-nil}
+use Rattle.std.proofs.Common.{◌≡◌, ℕ, refl, sym, ap, subst, ◌∙◌, append-nil, List, [], ◌∷◌, ◌++◌, map, Bool, true, false, Option, Some, None, Result, Ok, Err}
+use Rattle.std.specs.Prelude.{◌==◌, ◌||◌, IfErr, OnOk}
+use Rattle.std.proofs.lemmas.Bool.{eqb-true}
 use Rattle.dwc_base.specs.declared.constants.TheConstants.{DW_TAG_pointer_type, DW_TAG_reference_type, DW_TAG_subprogram}
 use Rattle.dwc_base.specs.Sections.{Fault}
 use Rattle.dwc_rules.specs.Kept.{Placed}
@@ -15,41 +13,27 @@ use Rattle.dwc_rules.specs.EntryRules.{of_build}
 use Rattle.dwc_rules.specs.LocationRules.{in_force_at}
 use Rattle.dwc_rules.specs.TypeNames.{type_name}
 use Rattle.dwc_rules.specs.Wrappers.{is_wrapped, name_fault, name_or_unknown, wrapper_name, wrapper_refusals}
-use Rattle.dwc_clif.specs.Registers.{Registers}
-use Rattle.dwc_write.specs.declared.strings.StringId.{StringId}
-use Rattle.dwc_write.specs.declared.units.UnitEntryId.{UnitEntryId}
-use Rattle.dwc_write.specs.GivenUnits.{GivenUnit}
-use Rattle.dwc_write.specs.TextTables.{IsText}
-use Rattle.dwc_clone.specs.declared.error.CloneError.{CloneError}
-use Rattle.dwc_clone.specs.declared.error.CloneError.TheVariants.{OutOfMemory}
-use Rattle.dwc_clone.specs.declared.source.CloneSource.{CloneSource}
+use Rattle.dwc_isa.specs.Registers.{Registers}
+use Rattle.dwc_unit.specs.declared.strings.StringId.{StringId}
+use Rattle.dwc_unit.specs.declared.units.UnitEntryId.{UnitEntryId}
+use Rattle.dwc_unit.specs.GivenUnits.{GivenUnit}
+use Rattle.dwc_source.specs.declared.error.CloneError.{CloneError}
+use Rattle.dwc_source.specs.declared.error.CloneError.TheVariants.{OutOfMemory}
+use Rattle.dwc_source.specs.declared.source.CloneSource.{CloneSource}
 use Rattle.dwc_clone.specs.declared.wrapper.OpenWrapper.{OpenWrapper}
 use Rattle.dwc_clone.specs.declared.wrapper.WrapperTexts.{WrapperTexts}
-use Rattle.dwc_clone.specs.Errors.{refusal_told}
-use Rattle.dwc_clone.specs.KnownNames.{GivesNumber}
-use Rattle.dwc_clone.specs.KnownTexts.{IsNumbered}
-use Rattle.dwc_clone.specs.MadeValues.{Grows, RefusesSo}
-use Rattle.dwc_clone.specs.ClonedUnits.{TellsFirst, clone_rules, source_with}
+use Rattle.dwc_source.specs.Errors.{refusal_told}
+use Rattle.dwc_types.specs.KnownNames.{GivesNumber}
+use Rattle.dwc_source.specs.KnownTexts.{IsNumbered}
+use Rattle.dwc_source.specs.MadeValues.{Grows, RefusesSo}
+use Rattle.dwc_clone.specs.ClonedUnits.{TellsFirst}
+use Rattle.dwc_extents.specs.CodeSources.{clone_rules, source_with}
 use Rattle.dwc_clone.specs.ClonedEntries.{values_refused}
-use Rattle.dwc_clone.specs.Sources.{IsSource}
-use Rattle.dwc_clone.specs.TypeChains.{GivesRead}
+use Rattle.dwc_source.specs.Sources.{IsSource}
+use Rattle.dwc_types.specs.TypeChains.{GivesRead}
 use Rattle.dwc_clone.specs.OpenWrappers.{HasWrapperTexts}
 use Rattle.dwc_clone.specs.WrappedEntries.{AddsWrapper, AreChecked, GivesWrapped, GivesWrapperName, IsWrapperNamed}
 use Rattle.dwc_clone.proofs.EntryValues.{grows-on}
-
--- ---- texts
-
-plain-text : (t : List ℕ) → list_all (λ b. nat_lt 0 b) t ≡ true → IsText t
-plain-text [] all = All-nil (λ b. 0 < b)
-plain-text (b ∷ t) all = let both = and_parts (nat_lt 0 b) (list_all (λ b. nat_lt 0 b) t) all in All-cons (λ b. 0 < b) b t (ltb-true 0 b both.0) (plain-text t both.1)
-
--- The name of a wrapper has no zero byte.
-pub wrapper-text : (tag : ℕ) (name : List ℕ) → IsText name → IsText (wrapper_name tag name)
-wrapper-text tag name plain = go (tag == DW_TAG_pointer_type)
-  where
-    go : (b : Bool) → IsText ((if b then codes "WebAssemblyPtrWrapper<" else codes "WebAssemblyRefWrapper<") ++ name ++ codes ">")
-    go true = All-append (λ b. 0 < b) (codes "WebAssemblyPtrWrapper<") (name ++ codes ">") (plain-text (codes "WebAssemblyPtrWrapper<") refl) (All-append (λ b. 0 < b) name (codes ">") plain (plain-text (codes ">") refl))
-    go false = All-append (λ b. 0 < b) (codes "WebAssemblyRefWrapper<") (name ++ codes ">") (plain-text (codes "WebAssemblyRefWrapper<") refl) (All-append (λ b. 0 < b) name (codes ">") plain (plain-text (codes ">") refl))
 
 -- ---- what is refused of an entry that is wrapped
 
@@ -131,8 +115,3 @@ gives-wrapped registers c s p old middle new name texts parents path id before b
   opens = adds.opens;
 }
 gives-wrapped registers c s p old middle new name texts parents path id before behind u0 u (Err e) named grows has memory adds = subst (λ f. TellsFirst (entry_refusals (clone_rules registers c s) s p) (refusal_told f)) (sym memory) tt
-
--- What holds in any case holds where a call succeeds.
-pub always-ok : {A F P : Type 0} (r : Result A F) → P → OnOk r P
-always-ok (Ok x) p = p
-always-ok (Err e) p = tt

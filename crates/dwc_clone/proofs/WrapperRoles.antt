@@ -6,12 +6,12 @@ use Rattle.dwc_dwarf.specs.Entries.{Entry}
 use Rattle.dwc_rules.specs.Kept.{Placed}
 use Rattle.dwc_rules.specs.Clones.{UnitSource}
 use Rattle.dwc_rules.specs.Drafts.{Role, itself, pointer_to_target, pointer_to_wrapper, reference_to_target}
-use Rattle.dwc_clif.specs.Registers.{Registers}
-use Rattle.dwc_clone.specs.declared.source.CloneSource.{CloneSource}
+use Rattle.dwc_isa.specs.Registers.{Registers}
+use Rattle.dwc_source.specs.declared.source.CloneSource.{CloneSource}
 use Rattle.dwc_clone.specs.BuiltUnits.{AreRoles, numbers_taken}
 use Rattle.dwc_clone.specs.ClonedUnits.{placed_in}
-use Rattle.dwc_clone.specs.ClonedEntries.{placed_entry}
-use Rattle.dwc_clone.specs.OutputPlaces.{place_of}
+use Rattle.dwc_source.specs.Sources.{placed_entry}
+use Rattle.dwc_source.specs.OutputPlaces.{place_of}
 
 -- the number of a type of a wrapper, of which the first has one
 abbrev role_from : ℕ → Role → Option ℕ

@@ -11,25 +11,27 @@ use Rattle.dwc_rules.specs.Drafts.{Draft, Goal, Role, pointer_to_target, pointer
 use Rattle.dwc_rules.specs.DraftForests.{settled_unit}
 use Rattle.dwc_rules.specs.EntryRules.{wrappers_of}
 use Rattle.dwc_rules.specs.Wrappers.{closing, entries_made, is_wrapped}
-use Rattle.dwc_clif.specs.Registers.{Registers}
-use Rattle.dwc_write.specs.declared.units.UnitEntryId.{UnitEntryId}
-use Rattle.dwc_write.specs.GivenLines.{GivenLines}
-use Rattle.dwc_write.specs.GivenUnits.{GivenUnit, place_of}
-use Rattle.dwc_write.specs.UsedTexts.{texts_of_attributes}
-use Rattle.dwc_write.specs.AddedInOrder.{AreInOrder, tree_meant, with_last}
-use Rattle.dwc_write.specs.Renumbered.{LeadsToEntries}
-use Rattle.dwc_clone.specs.declared.error.CloneError.{CloneError}
-use Rattle.dwc_clone.specs.declared.source.CloneSource.{CloneSource}
-use Rattle.dwc_clone.specs.declared.type_name.TypeNames.{TypeNames}
+use Rattle.dwc_isa.specs.Registers.{Registers}
+use Rattle.dwc_unit.specs.declared.units.UnitEntryId.{UnitEntryId}
+use Rattle.dwc_unit.specs.GivenLines.{GivenLines}
+use Rattle.dwc_unit.specs.GivenUnits.{GivenUnit, place_of}
+use Rattle.dwc_unit.specs.UsedTexts.{texts_of_attributes}
+use Rattle.dwc_unit.specs.AddedInOrder.{AreInOrder, tree_meant, with_last}
+use Rattle.dwc_unit.specs.Renumbered.{LeadsToEntries}
+use Rattle.dwc_source.specs.declared.error.CloneError.{CloneError}
+use Rattle.dwc_source.specs.declared.source.CloneSource.{CloneSource}
+use Rattle.dwc_types.specs.declared.type_name.TypeNames.{TypeNames}
 use Rattle.dwc_clone.specs.declared.wrapper.OpenWrapper.{OpenWrapper}
 use Rattle.dwc_clone.specs.declared.wrapper.WrapperTypes.{WrapperTypes}
-use Rattle.dwc_clone.specs.Errors.{refusal_told}
-use Rattle.dwc_clone.specs.MadeValues.{Grows}
-use Rattle.dwc_clone.specs.ClonedUnits.{AreNumbered, TellsFirst, clone_drafts, clone_refusals, clone_rules, draft_depths, goal_number, placed_in, source_with}
-use Rattle.dwc_clone.specs.ClonedEntries.{ArePath, CanFollow, IsLastAt, placed_entry}
-use Rattle.dwc_clone.specs.KnownNames.{KnowsNames}
-use Rattle.dwc_clone.specs.Lineages.{Stacks, no_stacks, with_entries}
-use Rattle.dwc_clone.specs.OutputPlaces as output
+use Rattle.dwc_source.specs.Errors.{refusal_told}
+use Rattle.dwc_source.specs.MadeValues.{Grows}
+use Rattle.dwc_clone.specs.ClonedUnits.{AreNumbered, TellsFirst, clone_drafts, clone_refusals, draft_depths, goal_number, placed_in}
+use Rattle.dwc_extents.specs.CodeSources.{clone_rules, source_with}
+use Rattle.dwc_clone.specs.ClonedEntries.{ArePath, CanFollow, IsLastAt}
+use Rattle.dwc_source.specs.Sources.{placed_entry}
+use Rattle.dwc_types.specs.KnownNames.{KnowsNames}
+use Rattle.dwc_extents.specs.Lineages.{Stacks, no_stacks, with_entries}
+use Rattle.dwc_source.specs.OutputPlaces as output
 use Rattle.dwc_clone.specs.ParameterContexts.{Contexts, contexts_behind}
 use Rattle.dwc_clone.specs.WrappedEntries.{target_id}
 

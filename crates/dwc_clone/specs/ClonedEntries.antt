@@ -9,21 +9,20 @@ use Rattle.dwc_dwarf.specs.Trees.{TreeValue, set_attribute}
 use Rattle.dwc_rules.specs.Clones.{UnitSource, attributes_become, if_made, if_refused}
 use Rattle.dwc_rules.specs.Drafts.{Goal, DraftValue}
 use Rattle.dwc_rules.specs.DraftForests.{settled}
-use Rattle.dwc_clif.specs.Registers.{Registers}
+use Rattle.dwc_isa.specs.Registers.{Registers}
 use Rattle.dwc_kept.specs.KeptUnits.{AreBelow}
-use Rattle.dwc_write.specs.declared.attributes.AttributeValue.{AttributeValue}
-use Rattle.dwc_write.specs.declared.error.WriteError.{WriteError}
-use Rattle.dwc_write.specs.declared.units.UnitEntryId.{UnitEntryId}
-use Rattle.dwc_write.specs.GivenUnits.{Addition, GivenUnit, IsAdded, IsReserved, place_of, with_child, with_known, with_value}
-use Rattle.dwc_write.specs.UsedTexts.{texts_of_attributes}
-use Rattle.dwc_write.specs.AddedInOrder.{attribute_meant, with_last}
+use Rattle.dwc_unit.specs.declared.attributes.AttributeValue.{AttributeValue}
+use Rattle.dwc_unit.specs.declared.units.UnitEntryId.{UnitEntryId}
+use Rattle.dwc_unit.specs.GivenUnits.{Addition, GivenUnit, IsAdded, IsReserved, place_of, with_child, with_known, with_value}
+use Rattle.dwc_unit.specs.UsedTexts.{texts_of_attributes}
+use Rattle.dwc_unit.specs.AddedInOrder.{attribute_meant, with_last}
 use Rattle.dwc_clone.specs.declared.entry.PlacedEntry.{PlacedEntry}
-use Rattle.dwc_clone.specs.declared.error.CloneError.{CloneError}
-use Rattle.dwc_clone.specs.declared.error.CloneError.TheVariants.{OutOfMemory}
-use Rattle.dwc_clone.specs.declared.source.CloneSource.{CloneSource}
-use Rattle.dwc_clone.specs.Errors.{refusal_told}
-use Rattle.dwc_clone.specs.MadeValues.{Grows}
-use Rattle.dwc_clone.specs.ClonedUnits.{clone_rules, depths_of, TellsFirst}
+use Rattle.dwc_source.specs.declared.error.CloneError.{CloneError}
+use Rattle.dwc_source.specs.declared.source.CloneSource.{CloneSource}
+use Rattle.dwc_source.specs.Errors.{refusal_told}
+use Rattle.dwc_source.specs.MadeValues.{Grows}
+use Rattle.dwc_clone.specs.ClonedUnits.{depths_of, TellsFirst}
+use Rattle.dwc_extents.specs.CodeSources.{clone_rules}
 
 -- ---- values of the entry that was added last
 
@@ -52,16 +51,7 @@ abbrev pub with_made : ℕ → ℕ → Option AttributeValue → GivenUnit → G
 with_made id name None u = u
 with_made id name (Some value) u = with_value id name value u
 
--- A call answers what a call of a writer answered; a refusal is for want of memory.
-abbrev pub OfMemory : {T : Type 0} → Result T WriteError → Result T CloneError → Type 0
-OfMemory written (Ok x) = written ≡ Ok x
-OfMemory written (Err e) = e ≡ OutOfMemory
-
 -- ---- what attributes become
-
--- an entry of the unit that is cloned
-abbrev pub placed_entry : CloneSource → Entries.Entry → Placed
-placed_entry c e = record { unit = c.unit.now.header.offset; entry = e }
 
 -- How an attribute is told that was made: it goes, or has another value.
 abbrev pub Tell : Type 0

@@ -1,4 +1,5 @@
 -- The unit of the output that is made of the kept entries of a unit.
+use Rattle.dwc_extents.specs.CodeSources.{clone_rules, source_with}
 use Rattle.std.specs.Prelude.{◌≡◌, ℕ, ◌<◌, ◌==◌, List, [], ◌∷◌, map, length, get_or, if◌then◌else◌, All, Option, Some, None, option_map, IfSome, Result, Ok, Err}
 use Rattle.std.specs.List.{flat_map, AllZip}
 use Rattle.dwc_base.specs.declared.constants.TheConstants.{DW_TAG_compile_unit}
@@ -7,30 +8,23 @@ use Rattle.dwc_dwarf.specs.ReadValues.{IsReadEntry}
 use Rattle.dwc_rules.specs.Kept.{Placed}
 use Rattle.dwc_rules.specs.Refusals.{Refusal}
 use Rattle.dwc_base.specs.Listing.{first_of}
-use Rattle.dwc_rules.specs.Drafts.{Role, itself, pointer_to_wrapper, reference_to_target, pointer_to_target, Goal, made_of, own_entry, Draft}
-use Rattle.dwc_rules.specs.Clones.{UnitSource, CodeRules, entry_refusals}
+use Rattle.dwc_rules.specs.Drafts.{Role, itself, pointer_to_wrapper, reference_to_target, pointer_to_target, Goal, made_of, synthetic_entry, Draft}
+use Rattle.dwc_rules.specs.Clones.{UnitSource, entry_refusals}
 use Rattle.dwc_rules.specs.CarriedDrafts.{unit_drafts}
 use Rattle.dwc_rules.specs.DraftForests.{settled_unit}
-use Rattle.dwc_rules.specs.EntryRules.{code_rules}
-use Rattle.dwc_dwarf.specs.Lists.{list_source}
-use Rattle.dwc_rules.specs.LocationRules.{ExpressionSource, in_force_at}
-use Rattle.dwc_clif.specs.Registers.{Registers}
+use Rattle.dwc_isa.specs.Registers.{Registers}
 use Rattle.dwc_kept.specs.KeptUnits.{IsTree}
-use Rattle.dwc_write.specs.GivenUnits.{GivenUnit}
-use Rattle.dwc_write.specs.GivenUnits.{place_of as place_of_number}
-use Rattle.dwc_write.specs.UsedTexts.{texts_of_attributes}
-use Rattle.dwc_write.specs.AddedInOrder.{IsInOrder, tree_meant}
-use Rattle.dwc_write.specs.Renumbered.{LeadsToEntries}
-use Rattle.dwc_clone.specs.declared.error.CloneError.{CloneError}
-use Rattle.dwc_clone.specs.declared.in_force.InForce.{InForce}
-use Rattle.dwc_clone.specs.declared.source.CloneSource.{CloneSource}
-use Rattle.dwc_clone.specs.Errors.{refusal_told}
-use Rattle.dwc_clone.specs.OutputPlaces.{place_of}
-use Rattle.dwc_clone.specs.Sources.{own_unit_of}
-use Rattle.dwc_clone.specs.CompiledModules.{HasFrames, told_by}
-use Rattle.dwc_clone.specs.InForceSeen.{in_force_view}
-use Rattle.dwc_clone.specs.Lineages.{AreInForce, Stacks}
-use Rattle.dwc_clone.specs.MadeValues.{Grows}
+use Rattle.dwc_unit.specs.GivenUnits.{GivenUnit}
+use Rattle.dwc_unit.specs.GivenUnits.{place_of as place_of_number}
+use Rattle.dwc_unit.specs.UsedTexts.{texts_of_attributes}
+use Rattle.dwc_unit.specs.AddedInOrder.{IsInOrder, tree_meant}
+use Rattle.dwc_unit.specs.Renumbered.{LeadsToEntries}
+use Rattle.dwc_source.specs.declared.error.CloneError.{CloneError}
+use Rattle.dwc_source.specs.declared.source.CloneSource.{CloneSource}
+use Rattle.dwc_source.specs.Errors.{refusal_told}
+use Rattle.dwc_source.specs.OutputPlaces.{place_of}
+use Rattle.dwc_source.specs.Sources.{synthetic_unit_of}
+use Rattle.dwc_source.specs.MadeValues.{Grows}
 
 -- the entries at some offsets, both in file order
 abbrev pub picked : List ℕ → List Entry → List Entry
@@ -44,22 +38,6 @@ placed_in unit es = map (λ e. record { unit = unit; entry = e }) es
 
 abbrev pub depths_of : List Entry → List ℕ
 depths_of es = map (λ e. e.depth) es
-
--- the rules for the code of the unit that is cloned, for a target that numbers registers
-abbrev pub clone_rules : Registers → CloneSource → UnitSource → CodeRules Refusal
-clone_rules registers c s = code_rules (told_by registers c.module) c.transform.now c.unit.now.sections c.unit.now.header s.entries
-
--- what the unit's expressions are carried with
-abbrev pub source_with : Registers → CloneSource → UnitSource → ExpressionSource
-source_with registers c s = record { sections = c.unit.now.sections; header = c.unit.now.header; functions = c.transform.now; told = told_by registers c.module; entries = s.entries }
-
--- What is said to be in force at an entry of the unit is.
-abbrev pub IsInForce : Registers → CloneSource → UnitSource → Placed → InForce → Type 0
-IsInForce registers c s e in_force = in_force_view c.transform.now registers in_force ≡ in_force_at (source_with registers c s) e
-
--- What is on top of the stacks is in force at an entry of the unit, and the module tells its frames.
-abbrev pub GivesInForce : CloneSource → UnitSource → Placed → Stacks → Type 0
-GivesInForce c s e stacks = HasFrames c.module c.transform.now × AreInForce (list_source c.unit.now.sections c.unit.now.header) c.transform.now s.entries e stacks
 
 -- what is refused of some entries of the unit, in order
 abbrev pub clone_refusals : Registers → CloneSource → UnitSource → List Entry → List Refusal
@@ -90,7 +68,7 @@ goal_number c number roles (made_of offset itself) = place_of c.places.now offse
 goal_number c number roles (made_of offset pointer_to_wrapper) = option_map (λ n. (number, n)) (roles offset pointer_to_wrapper)
 goal_number c number roles (made_of offset reference_to_target) = option_map (λ n. (number, n)) (roles offset reference_to_target)
 goal_number c number roles (made_of offset pointer_to_target) = option_map (λ n. (number, n)) (roles offset pointer_to_target)
-goal_number c number roles (own_entry place) = Some (own_unit_of c, place)
+goal_number c number roles (synthetic_entry place) = Some (synthetic_unit_of c, place)
 
 -- An entry that is made of one of the input in a role has the number that is told of it.
 abbrev pub HasNumber : (Goal → Option (ℕ × ℕ)) → ℕ → Draft → ℕ → Type 0

@@ -5,20 +5,20 @@ use Rattle.dwc_native.specs.BuiltExpressions.{BuildRefusal}
 use Rattle.dwc_dwarf.specs.Trees.{Location}
 use Rattle.dwc_rules.specs.EntryRules.{of_build}
 use Rattle.dwc_rules.specs.ContextVariable.{location_refusals}
-use Rattle.dwc_write.specs.declared.attributes.AttributeValue.TheVariants.{LocationListRef, StringRef, DebugInfoRef as Reference}
-use Rattle.dwc_write.specs.declared.attributes.DebugInfoRef.{DebugInfoRef}
-use Rattle.dwc_write.specs.declared.error.WriteError.{WriteError}
-use Rattle.dwc_write.specs.declared.strings.StringId.{StringId}
-use Rattle.dwc_write.specs.GivenUnits.{FitsValue, GivenUnit, with_child, with_next, with_value}
-use Rattle.dwc_clone.specs.declared.error.CloneError.{CloneError}
-use Rattle.dwc_clone.specs.Errors as refusals
-use Rattle.dwc_clone.specs.KnownTexts.{IsNumbered}
+use Rattle.dwc_unit.specs.declared.attributes.AttributeValue.TheVariants.{LocationListRef, StringRef, DebugInfoRef as Reference}
+use Rattle.dwc_unit.specs.declared.attributes.DebugInfoRef.{DebugInfoRef}
+use Rattle.dwc_section.specs.declared.error.WriteError.{WriteError}
+use Rattle.dwc_unit.specs.declared.strings.StringId.{StringId}
+use Rattle.dwc_unit.specs.GivenUnits.{FitsValue, GivenUnit, with_child, with_next, with_value}
+use Rattle.dwc_source.specs.declared.error.CloneError.{CloneError}
+use Rattle.dwc_source.specs.Errors as refusals
+use Rattle.dwc_source.specs.KnownTexts.{IsNumbered}
 use Rattle.dwc_clone.specs.ClonedUnits.{TellsFirst}
 use Rattle.dwc_expr.specs.declared.error.ExprError.{ExprError}
 use Rattle.dwc_expr.specs.declared.error.ExprError.TheVariants.{OutOfMemory}
 use Rattle.dwc_expr.specs.Builds.{location_view}
 use Rattle.dwc_expr.specs.Errors.{refusal_told}
-use Rattle.dwc_write.specs.LocationLists.{LocationList}
+use Rattle.dwc_unit.specs.LocationLists.{LocationList}
 
 -- An error is the refusal that it tells; one that tells nothing is want of memory.
 abbrev pub IsRefused : Result (List Location) BuildRefusal → ExprError → Option BuildRefusal → Type 0

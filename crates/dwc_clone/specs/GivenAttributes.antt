@@ -1,6 +1,6 @@
 -- Attributes as the contracts of a unit that is made see them: a name and a value.
 use Rattle.std.specs.Prelude.{List}
-use Rattle.dwc_write.specs.FileOrders.{no_addition}
+use Rattle.dwc_unit.specs.FileOrders.{no_addition}
 
 -- what the items of a list are
 abbrev item_of : (A : Type 0) → List A → Type 0

@@ -1,8 +1,8 @@
 -- Entries that stem from none of the input, as they are added to a unit.
 use Rattle.std.specs.Prelude.{◌≡◌, ℕ, ◌<◌, List, length, fold, true}
-use Rattle.dwc_write.specs.declared.attributes.AttributeValue.{AttributeValue}
-use Rattle.dwc_write.specs.declared.attributes.AttributeValue.TheVariants as write
-use Rattle.dwc_write.specs.GivenUnits.{GivenUnit, constant_bound, is_constant_form, with_child, with_next, with_value}
+use Rattle.dwc_unit.specs.declared.attributes.AttributeValue.{AttributeValue}
+use Rattle.dwc_unit.specs.declared.attributes.AttributeValue.TheVariants as write
+use Rattle.dwc_unit.specs.GivenUnits.{GivenUnit, constant_bound, is_constant_form, with_child, with_next, with_value}
 use Rattle.dwc_clone.specs.declared.made.MadeValue.{MadeValue}
 use Rattle.dwc_clone.specs.declared.made.MadeValue.TheVariants.{Text, Constant, Flag, Entry, AnyEntry}
 

@@ -1,17 +1,17 @@
 -- Wrappers as they are added: their texts, and those whose types are still to be added.
 use Rattle.std.specs.Prelude.{◌≡◌, ◌≢◌, ℕ, zero, suc, ◌<◌, ◌≤◌, ◌⊎◌, nat_lt, if◌then◌else◌, List, [], ◌∷◌, length, true, Option, Some, None, codes}
 use Rattle.dwc_base.specs.declared.constants.TheConstants.{DW_AT_artificial, DW_AT_byte_size, DW_AT_data_member_location, DW_AT_linkage_name, DW_AT_name, DW_AT_type, DW_FORM_data1, DW_TAG_formal_parameter, DW_TAG_member, DW_TAG_pointer_type, DW_TAG_reference_type, DW_TAG_subprogram, DW_TAG_template_type_parameter}
-use Rattle.dwc_write.specs.declared.attributes.AttributeValue.TheVariants.{UnitRef}
-use Rattle.dwc_write.specs.declared.attributes.DebugInfoRef.{DebugInfoRef}
-use Rattle.dwc_write.specs.declared.strings.StringId.{StringId}
-use Rattle.dwc_write.specs.declared.units.UnitEntryId.{UnitEntryId}
-use Rattle.dwc_write.specs.GivenUnits.{GivenUnit, IsAdded, IsReserved, with_child, with_known, with_reserved, with_value}
+use Rattle.dwc_unit.specs.declared.attributes.AttributeValue.TheVariants.{UnitRef}
+use Rattle.dwc_unit.specs.declared.attributes.DebugInfoRef.{DebugInfoRef}
+use Rattle.dwc_unit.specs.declared.strings.StringId.{StringId}
+use Rattle.dwc_unit.specs.declared.units.UnitEntryId.{UnitEntryId}
+use Rattle.dwc_unit.specs.GivenUnits.{GivenUnit, IsAdded, IsReserved, with_child, with_known, with_reserved, with_value}
 use Rattle.dwc_clone.specs.declared.made.MadeValue.TheVariants.{Text, Constant, Flag, Entry, AnyEntry}
 use Rattle.dwc_clone.specs.MadeAttributes.{with_made_entry, with_values}
 use Rattle.dwc_clone.specs.declared.wrapper.OpenWrapper.{OpenWrapper}
 use Rattle.dwc_clone.specs.declared.wrapper.WrapperTexts.{WrapperTexts}
 use Rattle.dwc_clone.specs.declared.wrapper.WrapperTypes.{WrapperTypes}
-use Rattle.dwc_clone.specs.KnownTexts.{IsNumbered}
+use Rattle.dwc_source.specs.KnownTexts.{IsNumbered}
 
 -- The texts of a wrapper of a name are in a table, with the function that makes a native pointer.
 pub record HasWrapperTexts (table : List (List ℕ)) (function wrapper : List ℕ) (texts : WrapperTexts) : Type 0 where

@@ -7,13 +7,13 @@ use Rattle.dwc_rules.specs.ObjectPointers.{has_parameters, looks_like_this}
 use Rattle.dwc_rules.specs.Scopes.{Given, left_for}
 use Rattle.dwc_dwarf.specs.Texts.{TextSource}
 use Rattle.dwc_kept.specs.ReadEntries.{named_offset}
-use Rattle.dwc_clone.specs.declared.error.CloneError.{CloneError}
-use Rattle.dwc_clone.specs.Errors.{refusal_told}
+use Rattle.dwc_source.specs.declared.error.CloneError.{CloneError}
+use Rattle.dwc_source.specs.Errors.{refusal_told}
 use Rattle.dwc_clone.specs.declared.object_pointer.Telling.{Telling}
 use Rattle.dwc_clone.specs.declared.object_pointer.Telling.TheVariants.{Plain, ObjectPointer}
 use Rattle.dwc_clone.specs.declared.object_pointer.SubprogramContext.{SubprogramContext}
-use Rattle.dwc_clone.specs.declared.source.CloneSource.{CloneSource}
-use Rattle.dwc_clone.specs.ClonedEntries.{placed_entry}
+use Rattle.dwc_source.specs.declared.source.CloneSource.{CloneSource}
+use Rattle.dwc_source.specs.Sources.{placed_entry}
 
 abbrev pub Contexts : Type 0
 Contexts = List (Given SubprogramContext)

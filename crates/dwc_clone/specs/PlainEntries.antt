@@ -8,15 +8,16 @@ use Rattle.dwc_rules.specs.Clones.{UnitSource, endianity, entry_refusals}
 use Rattle.dwc_rules.specs.ContextVariable.{context_over}
 use Rattle.dwc_rules.specs.Drafts.{Goal}
 use Rattle.dwc_rules.specs.DraftForests.{settled}
-use Rattle.dwc_clif.specs.Registers.{Registers}
-use Rattle.dwc_write.specs.declared.units.UnitEntryId.{UnitEntryId}
-use Rattle.dwc_write.specs.GivenUnits.{Addition, GivenUnit}
+use Rattle.dwc_isa.specs.Registers.{Registers}
+use Rattle.dwc_unit.specs.declared.units.UnitEntryId.{UnitEntryId}
+use Rattle.dwc_unit.specs.GivenUnits.{Addition, GivenUnit}
 use Rattle.dwc_clone.specs.declared.entry.PlacedEntry.{PlacedEntry}
-use Rattle.dwc_clone.specs.declared.error.CloneError.{CloneError}
-use Rattle.dwc_clone.specs.declared.source.CloneSource.{CloneSource}
-use Rattle.dwc_clone.specs.Errors.{refusal_told}
-use Rattle.dwc_clone.specs.MadeValues.{Grows}
-use Rattle.dwc_clone.specs.ClonedUnits.{TellsFirst, clone_rules, source_with}
+use Rattle.dwc_source.specs.declared.error.CloneError.{CloneError}
+use Rattle.dwc_source.specs.declared.source.CloneSource.{CloneSource}
+use Rattle.dwc_source.specs.Errors.{refusal_told}
+use Rattle.dwc_source.specs.MadeValues.{Grows}
+use Rattle.dwc_clone.specs.ClonedUnits.{TellsFirst}
+use Rattle.dwc_extents.specs.CodeSources.{clone_rules, source_with}
 use Rattle.dwc_clone.specs.ClonedEntries.{IsGiven, values_wanted}
 use Rattle.dwc_clone.specs.ContextPlaces.{HasVariable}
 use Rattle.dwc_clone.specs.Tellings.{tell_of, telling_of}

@@ -5,11 +5,11 @@ use Rattle.dwc_dwarf.specs.Texts.{TextSource}
 use Rattle.dwc_dwarf.specs.Values.{Value}
 use Rattle.dwc_rules.specs.ObjectPointers.{has_parameters, is_object_pointer, names_no_pointer, unlike_this}
 use Rattle.dwc_kept.specs.ReadEntries.{named_offset}
-use Rattle.dwc_clone.specs.declared.source.CloneSource.{CloneSource}
+use Rattle.dwc_source.specs.declared.source.CloneSource.{CloneSource}
 use Rattle.dwc_clone.specs.declared.object_pointer.Telling.{Telling}
 use Rattle.dwc_clone.specs.declared.object_pointer.Telling.TheVariants.{Plain, Function, ObjectPointer}
 use Rattle.dwc_clone.specs.ClonedEntries.{Tell}
-use Rattle.dwc_clone.specs.Sources.{is_within}
+use Rattle.dwc_source.specs.Sources.{is_within}
 
 -- how the attributes of an entry are told, among those of its section
 abbrev pub telling_of : TextSource → List Placed → Placed → Telling

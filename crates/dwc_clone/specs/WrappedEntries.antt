@@ -5,21 +5,22 @@ use Rattle.dwc_rules.specs.Kept.{Placed}
 use Rattle.dwc_rules.specs.Clones.{UnitSource, entry_refusals}
 use Rattle.dwc_rules.specs.TypeNames.{type_name}
 use Rattle.dwc_rules.specs.Wrappers.{name_or_unknown, wrapper_name}
-use Rattle.dwc_clif.specs.Registers.{Registers}
-use Rattle.dwc_write.specs.declared.strings.StringId.{StringId}
-use Rattle.dwc_write.specs.declared.units.UnitEntryId.{UnitEntryId}
-use Rattle.dwc_write.specs.GivenUnits.{GivenUnit}
+use Rattle.dwc_isa.specs.Registers.{Registers}
+use Rattle.dwc_unit.specs.declared.strings.StringId.{StringId}
+use Rattle.dwc_unit.specs.declared.units.UnitEntryId.{UnitEntryId}
+use Rattle.dwc_unit.specs.GivenUnits.{GivenUnit}
 use Rattle.dwc_clone.specs.declared.entry.PlacedEntry.{PlacedEntry}
-use Rattle.dwc_clone.specs.declared.error.CloneError.{CloneError}
-use Rattle.dwc_clone.specs.declared.source.CloneSource.{CloneSource}
+use Rattle.dwc_source.specs.declared.error.CloneError.{CloneError}
+use Rattle.dwc_source.specs.declared.source.CloneSource.{CloneSource}
 use Rattle.dwc_clone.specs.declared.wrapper.OpenWrapper.{OpenWrapper}
 use Rattle.dwc_clone.specs.declared.wrapper.WrapperTexts.{WrapperTexts}
-use Rattle.dwc_clone.specs.Errors.{refusal_told}
-use Rattle.dwc_clone.specs.KnownTexts.{IsNumbered}
-use Rattle.dwc_clone.specs.MadeValues.{Grows}
-use Rattle.dwc_clone.specs.ClonedUnits.{TellsFirst, clone_rules}
+use Rattle.dwc_source.specs.Errors.{refusal_told}
+use Rattle.dwc_source.specs.KnownTexts.{IsNumbered}
+use Rattle.dwc_source.specs.MadeValues.{Grows}
+use Rattle.dwc_clone.specs.ClonedUnits.{TellsFirst}
+use Rattle.dwc_extents.specs.CodeSources.{clone_rules}
 use Rattle.dwc_clone.specs.ClonedEntries.{AddsBelow, last_parent, values_refused}
-use Rattle.dwc_clone.specs.TypeChains.{type_found}
+use Rattle.dwc_types.specs.TypeChains.{type_found}
 use Rattle.dwc_clone.specs.OpenWrappers.{HasWrapperTexts, IsOpened, wrapper_added}
 
 -- The attributes of an entry were read, of which nothing is refused; or the first refusal.

@@ -10,23 +10,21 @@ ghost use Rattle.dwc_rules.specs.RangeRefusals.{begins_by_low_pc};
 ghost use Rattle.dwc_rules.specs.Clones.{UnitSource, attribute_becomes, table_becomes};
 ghost use Rattle.dwc_read.specs.ValuesSeen.{value_view, attribute_view};
 ghost use Rattle.dwc_read.specs.EntriesSeen.{entry_view};
-ghost use Rattle.dwc_write.specs.GivenUnits.{FitsValue};
-ghost use Rattle.dwc_clone.specs.BoundRefusals.{IsSound};
-ghost use Rattle.dwc_clone.specs.declared.places.EmittedEntry.{EmittedEntry};
-ghost use Rattle.dwc_clone.specs.Sources.{AreFiles, IsSource};
-ghost use Rattle.dwc_clone.specs.ClonedUnits.{GivesInForce, clone_rules};
-ghost use Rattle.dwc_clone.specs.KnownTexts.{KnowsTexts};
-ghost use Rattle.dwc_clone.specs.MadeValues.{GivesMade, Grows, Says, SaysMore};
+ghost use Rattle.dwc_unit.specs.GivenUnits.{FitsValue};
+ghost use Rattle.dwc_extents.specs.BoundRefusals.{IsSound};
+ghost use Rattle.dwc_source.specs.declared.places.EmittedEntry.{EmittedEntry};
+ghost use Rattle.dwc_source.specs.Sources.{AreFiles, IsSource};
+ghost use Rattle.dwc_extents.specs.CodeSources.{GivesInForce, clone_rules};
+ghost use Rattle.dwc_source.specs.KnownTexts.{KnowsTexts};
+ghost use Rattle.dwc_source.specs.MadeValues.{GivesMade, Grows, Says, SaysMore};
 
-use crate::bounds::check_bound;
-use crate::lineage::Lineage;
-use crate::names::{is_bound_name, is_dropped_name};
 use crate::value::output_value;
-use crate::{CloneError, CloneSource, KnownTexts};
 use dwc_base::constants::DW_AT_stmt_list;
-use dwc_clif::TargetIsa;
+use dwc_extents::{Lineage, check_bound};
+use dwc_isa::TargetIsa;
 use dwc_read::{AttributeValue as InputValue, Entry};
-use dwc_write::{AttributeValue, StringTable};
+use dwc_source::{CloneError, CloneSource, KnownTexts, is_bound_name, is_dropped_name};
+use dwc_unit::{AttributeValue, StringTable};
 use std::alloc::Global;
 
 // The line table of the unit, which its root names.

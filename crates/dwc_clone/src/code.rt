@@ -1,28 +1,28 @@
 //! The attributes that say where the code of an entry is. (DWARF 4 and 5, section 2.17.)
-ghost use Rattle.std.specs.Prelude.{◌≡◌, ℕ, ◌<◌, ◌∷◌, [], List, OnOk, IsOkUnless, All};
+ghost use Rattle.std.specs.Prelude.{◌≡◌, ℕ, ◌<◌, ◌∷◌, [], List, OnOk, IsOkUnless, All, option_map, IfSome, IsSome, map};
 ghost use Rattle.dwc_native.specs.Addends.{HaveAddends};
 ghost use Rattle.dwc_dwarf.specs.Lists.{list_source};
 ghost use Rattle.dwc_rules.specs.RangeAttributes.{bounds, begun_function, range_attributes, said_intervals};
 ghost use Rattle.dwc_read.specs.EntriesSeen.{entry_view};
 ghost use Rattle.dwc_addr.specs.Transforms.{function_view};
-ghost use Rattle.dwc_write.specs.GivenUnits.{Addition, GivenUnit, IsAdded};
-ghost use Rattle.dwc_write.specs.RangeLists.{FitsRange, interval_of};
-ghost use Rattle.dwc_write.specs.Writers.{FitsField};
+ghost use Rattle.dwc_unit.specs.GivenUnits.{Addition, GivenUnit, IsAdded};
+ghost use Rattle.dwc_unit.specs.RangeLists.{FitsRange, interval_of};
+ghost use Rattle.dwc_section.specs.Writers.{FitsField};
 ghost use Rattle.dwc_clone.specs.ClonedEntries.{IsGiven, IsLast};
-ghost use Rattle.dwc_clone.specs.CodeNames.{have_code_name};
-ghost use Rattle.dwc_clone.specs.NativeExtents.{FitsExtent, said_by};
-ghost use Rattle.dwc_clone.specs.ReadExtents.{IsScopeOf};
-ghost use Rattle.std.specs.Prelude.{option_map, IfSome, IsSome, map};
+ghost use Rattle.dwc_extents.specs.CodeNames.{have_code_name};
+ghost use Rattle.dwc_extents.specs.NativeExtents.{FitsExtent, said_by};
+ghost use Rattle.dwc_extents.specs.ReadExtents.{IsScopeOf};
 
-use crate::CloneSource;
-use crate::extent::{NativeExtent, extent_by_scope};
 use dwc_addr::FunctionMap;
 use dwc_base::Address;
 use dwc_base::constants::{
     DW_AT_high_pc, DW_AT_low_pc, DW_AT_ranges, DW_FORM_udata, DW_TAG_compile_unit,
 };
+use dwc_extents::{NativeExtent, extent_by_scope};
 use dwc_read::Entry;
-use dwc_write::{AttributeValue, RangeList, Unit, UnitEntryId, WriteError};
+use dwc_section::WriteError;
+use dwc_source::CloneSource;
+use dwc_unit::{AttributeValue, RangeList, Unit, UnitEntryId};
 use std::alloc::Global;
 
 // Gives an entry the bounds of one interval: where it begins, and how long it is.

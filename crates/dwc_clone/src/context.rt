@@ -6,20 +6,19 @@ ghost use Rattle.dwc_native.specs.Parts.{context_label};
 ghost use Rattle.dwc_expr.specs.Builds.{surroundings};
 ghost use Rattle.dwc_expr.specs.Errors.{refusal_told};
 ghost use Rattle.dwc_base.specs.declared.constants.TheConstants.{DW_AT_location};
-ghost use Rattle.dwc_write.specs.declared.attributes.AttributeValue.TheVariants.{LocationListRef};
-ghost use Rattle.dwc_write.specs.GivenUnits.{FitsValue, IsAdded};
+ghost use Rattle.dwc_unit.specs.declared.attributes.AttributeValue.TheVariants.{LocationListRef};
+ghost use Rattle.dwc_unit.specs.GivenUnits.{FitsValue, IsAdded};
 ghost use Rattle.dwc_clone.specs.ContextPlaces.{AddsContext, IsVariable, LiesOver, OfWritten};
-ghost use Rattle.dwc_clone.specs.MadeValues.{Grows};
+ghost use Rattle.dwc_source.specs.MadeValues.{Grows};
 
 use crate::made::{MadeValue, add_made};
-use crate::wrapper::add_text;
 use dwc_addr::{AddressTransform, translations_are_said};
 use dwc_base::constants::{DW_AT_location, DW_AT_name, DW_AT_type, DW_TAG_variable};
-use dwc_clif::TargetIsa;
 use dwc_expr::{CompiledExpression, ExprError, FunctionFrameInfo};
-use dwc_write::{
-    AttributeValue, DebugInfoRef, LocationList, StringTable, Unit, UnitEntryId, WriteError,
-};
+use dwc_isa::TargetIsa;
+use dwc_section::WriteError;
+use dwc_source::add_text;
+use dwc_unit::{AttributeValue, DebugInfoRef, LocationList, StringTable, Unit, UnitEntryId};
 use std::alloc::Global;
 
 // What a call of the writer answers, which is refused for want of memory alone.

@@ -16,46 +16,47 @@ ghost use Rattle.dwc_rules.specs.ContextVariable.{context_over};
 ghost use Rattle.dwc_rules.specs.Kept.{Placed};
 ghost use Rattle.dwc_dwarf.specs.ReadValues.{IsReadEntry};
 ghost use Rattle.dwc_read.specs.EntriesSeen.{entry_view};
-ghost use Rattle.dwc_write.specs.GivenUnits.{Addition, GivenUnit, FitsValue, IsAdded, IsReserved};
-ghost use Rattle.dwc_write.specs.TextTables.{IsText};
-ghost use Rattle.dwc_clone.specs.BoundRefusals.{IsSound};
-ghost use Rattle.dwc_clone.specs.CodeNames.{have_code_name};
-ghost use Rattle.dwc_clone.specs.CompiledModules.{HasFrames};
-ghost use Rattle.dwc_clone.specs.ClonedUnits.{GivesInForce, placed_in, source_with};
+ghost use Rattle.dwc_unit.specs.GivenUnits.{Addition, GivenUnit, FitsValue, IsAdded, IsReserved};
+ghost use Rattle.dwc_unit.specs.TextTables.{IsText};
+ghost use Rattle.dwc_extents.specs.BoundRefusals.{IsSound};
+ghost use Rattle.dwc_extents.specs.CodeNames.{have_code_name};
+ghost use Rattle.dwc_source.specs.CompiledModules.{HasFrames};
+ghost use Rattle.dwc_clone.specs.ClonedUnits.{placed_in};
+ghost use Rattle.dwc_extents.specs.CodeSources.{GivesInForce, source_with};
 ghost use Rattle.dwc_clone.specs.BegunNumbers.{NotesFunctions};
 ghost use Rattle.dwc_clone.specs.BuiltUnits.{AreClonedSoFar, GivesEntry};
 ghost use Rattle.dwc_clone.specs.OpenWrappers.{CanCloseAll, IsOther, KeepsNumbers};
 ghost use Rattle.dwc_clone.specs.PlainEntries.{GivesItself};
 ghost use Rattle.dwc_clone.specs.declared.entry.PlacedEntry.{PlacedEntry};
-ghost use Rattle.dwc_clone.specs.Lineages.{AreInForce, AreWalked, HasOwnScope};
-ghost use Rattle.dwc_clone.specs.Sources.{AreEmitted, IsSource};
-ghost use Rattle.dwc_clone.specs.TypeSteps.{AreNames};
-ghost use Rattle.dwc_clone.specs.KnownTexts.{KnowsTexts};
+ghost use Rattle.dwc_extents.specs.Lineages.{AreInForce, AreWalked, HasOwnScope};
+ghost use Rattle.dwc_source.specs.Sources.{AreEmitted, IsSource, placed_entry};
+ghost use Rattle.dwc_types.specs.TypeSteps.{AreNames};
+ghost use Rattle.dwc_source.specs.KnownTexts.{KnowsTexts};
 ghost use Rattle.dwc_clone.specs.ContextPlaces.{AddsVariable};
-ghost use Rattle.dwc_clone.specs.MadeValues.{ArePlaced, Grows};
+ghost use Rattle.dwc_source.specs.MadeValues.{ArePlaced, Grows};
 ghost use Rattle.dwc_clone.specs.Tellings.{tell_of, telling_of};
-ghost use Rattle.dwc_clone.specs.ClonedEntries.{AddsBelow, AreKnown, CanAdd, GivesSet, IsGiven, IsLast, OfMemory, last_parent, placed_entry, with_made};
+ghost use Rattle.dwc_clone.specs.ClonedEntries.{AddsBelow, AreKnown, CanAdd, GivesSet, IsGiven, IsLast, last_parent, with_made};
 
+use crate::append_vmctx_info;
 use crate::attribute::output_attribute;
 use crate::begun_numbers::note_function;
 use crate::code::set_code;
-use crate::code_names::speaks_of_code;
-use crate::lineage::Lineage;
-use crate::location::of_expression;
 use crate::object_pointer::{Telling, entry_told, told_value};
-use crate::walk::{Walk, frame_in_force, in_force_by};
+use crate::walk::Walk;
 use crate::wrapped::wrap_entry;
-use crate::wrapper::{close_wrappers, is_wrapped};
-use crate::{CloneError, CloneSource, KnownTexts, append_vmctx_info};
+use crate::wrapper::close_wrappers;
 use dwc_addr::FunctionMap;
 use dwc_base::constants::{
     DW_AT_endianity, DW_AT_low_pc, DW_END_little, DW_FORM_data1, DW_TAG_base_type,
     DW_TAG_subprogram,
 };
-use dwc_clif::TargetIsa;
+use dwc_extents::{Lineage, frame_in_force, in_force_by, of_expression, speaks_of_code};
+use dwc_isa::TargetIsa;
 use dwc_kept::{address_said, function_begun};
 use dwc_read::Entry;
-use dwc_write::{AttributeValue, StringTable, Unit, UnitEntryId, WriteError};
+use dwc_section::WriteError;
+use dwc_source::{CloneError, CloneSource, KnownTexts, is_wrapped, of_memory};
+use dwc_unit::{AttributeValue, StringTable, Unit, UnitEntryId};
 use std::alloc::Global;
 use std::collections::BTreeSet;
 use std::vec::Vec;
@@ -209,16 +210,6 @@ fn set_attributes(
         number += 1;
     }
     Ok(())
-}
-
-/// What a call of the writer answers, which is refused for want of memory alone.
-pub(crate) fn of_memory<T: Drop>(written: Result<T, WriteError>) -> Result<T, CloneError>
-    ensures { OfMemory written result }
-{
-    match written {
-        Ok(value) => Ok(value),
-        Err(_) => Err(CloneError::OutOfMemory),
-    }
 }
 
 // Whether an entry has a `low_pc` that is an address that can be read.

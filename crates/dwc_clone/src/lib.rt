@@ -3,52 +3,22 @@
 
 mod attribute;
 mod begun_numbers;
-mod bounds;
 mod code;
-mod code_names;
-mod compiled_module;
 mod context;
 mod entry;
-mod error;
-mod expressions;
-mod extent;
-mod files;
-mod given;
-mod in_force;
-mod inherited_attr;
-mod input_extent;
-mod known_texts;
-mod lineage;
-mod listed;
-mod located;
-mod located_error;
-mod located_list;
-mod location;
 mod made;
-mod names;
 mod object_pointer;
-mod places;
-mod ranges;
 mod reference;
-mod source;
-mod text;
-mod type_entry;
-mod type_name;
-mod type_ring;
 mod unit;
 mod value;
 mod walk;
-mod wasm_intervals;
 mod wrapped;
 mod wrapper;
 
-pub use compiled_module::CompiledModule;
 pub use context::append_vmctx_info;
-pub use error::CloneError;
-pub use files::UnitFiles;
-pub use inherited_attr::InheritedAttr;
-pub use known_texts::KnownTexts;
+pub use dwc_extents::InheritedAttr;
+pub use dwc_source::{
+    CloneError, CloneSource, CompiledModule, KnownTexts, OutputPlace, Places, UnitFiles,
+};
 pub use object_pointer::SubprogramContext;
-pub use places::{OutputPlace, Places};
-pub use source::CloneSource;
 pub use unit::clone_unit;

@@ -1,10 +1,11 @@
 //! Adds entries that stem from none of the input to a unit of the output.
 ghost use Rattle.std.specs.Prelude.{◌≡◌, ℕ, length, All, IfOk, IsOkUnless, OnOk};
-ghost use Rattle.dwc_write.specs.GivenUnits.{IsAdded};
-ghost use Rattle.dwc_write.specs.declared.error.WriteError.TheVariants.{OutOfMemory};
+ghost use Rattle.dwc_unit.specs.GivenUnits.{IsAdded};
+ghost use Rattle.dwc_section.specs.declared.error.WriteError.TheVariants.{OutOfMemory};
 ghost use Rattle.dwc_clone.specs.MadeAttributes.{FitsMade, given_value, with_made_entry, with_values};
 
-use dwc_write::{AttributeValue, DebugInfoRef, StringId, Unit, UnitEntryId, WriteError};
+use dwc_section::WriteError;
+use dwc_unit::{AttributeValue, DebugInfoRef, StringId, Unit, UnitEntryId};
 
 /// What an attribute of a made entry says.
 #[derive(Clone, Copy)]

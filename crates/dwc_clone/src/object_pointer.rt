@@ -11,37 +11,38 @@ ghost use Rattle.dwc_dwarf.specs.Entries.{attribute};
 ghost use Rattle.dwc_base.specs.declared.constants.TheConstants.{DW_AT_name as name, DW_AT_object_pointer as object_pointer};
 ghost use Rattle.dwc_rules.specs.Clones.{UnitSource, attribute_becomes};
 ghost use Rattle.dwc_dwarf.specs.Values.{Value};
-ghost use Rattle.dwc_clif.specs.Registers.{Registers};
+ghost use Rattle.dwc_isa.specs.Registers.{Registers};
 ghost use Rattle.dwc_rules.specs.Drafts.{DraftValue, done};
 ghost use Rattle.dwc_dwarf.specs.ReadValues.{IsReadValue};
 ghost use Rattle.dwc_dwarf.specs.Trees as Trees;
 ghost use Rattle.dwc_read.specs.EntriesSeen.{entry_view};
 ghost use Rattle.dwc_read.specs.ValuesSeen.{attribute_view, value_view};
-ghost use Rattle.dwc_write.specs.GivenUnits.{FitsValue};
-ghost use Rattle.dwc_write.specs.TextTables.{IsText};
-ghost use Rattle.dwc_clone.specs.declared.places.EmittedEntry.{EmittedEntry};
-ghost use Rattle.dwc_clone.specs.ClonedEntries.{placed_entry, told_draft};
-ghost use Rattle.dwc_clone.specs.ClonedUnits.{clone_rules, placed_in};
-ghost use Rattle.dwc_clone.specs.Lineages.{AreWalked};
-ghost use Rattle.dwc_clone.specs.MadeValues.{GivesMade, Grows, SaysMore};
+ghost use Rattle.dwc_unit.specs.GivenUnits.{FitsValue};
+ghost use Rattle.dwc_unit.specs.TextTables.{IsText};
+ghost use Rattle.dwc_source.specs.declared.places.EmittedEntry.{EmittedEntry};
+ghost use Rattle.dwc_clone.specs.ClonedEntries.{told_draft};
+ghost use Rattle.dwc_source.specs.Sources.{placed_entry, AreEmitted, IsEmitted, IsSource};
+ghost use Rattle.dwc_clone.specs.ClonedUnits.{placed_in};
+ghost use Rattle.dwc_extents.specs.CodeSources.{clone_rules};
+ghost use Rattle.dwc_extents.specs.Lineages.{AreWalked};
+ghost use Rattle.dwc_source.specs.MadeValues.{GivesMade, Grows, SaysMore};
 ghost use Rattle.dwc_clone.specs.ParameterContexts.{GivesOnly, GivesTelling, context_given, contexts_behind, is_first, met, met_at, next_number, points_by, told_behind, with_context};
-ghost use Rattle.dwc_clone.specs.Sources.{AreEmitted, IsEmitted, IsSource};
 ghost use Rattle.dwc_clone.specs.Tellings.{names_within, tell_of, telling_of};
 
-use crate::text::text_of;
-use crate::type_entry::type_of;
-use crate::{CloneError, CloneSource, InheritedAttr};
 use dwc_base::constants::{
     DW_AT_artificial, DW_AT_name, DW_AT_object_pointer, DW_TAG_entry_point,
     DW_TAG_formal_parameter, DW_TAG_inlined_subroutine, DW_TAG_pointer_type, DW_TAG_subprogram,
 };
+use dwc_extents::InheritedAttr;
 use dwc_kept::named_offset;
 use dwc_read::{AttributeValue as InputValue, Entry};
-use dwc_write::{AttributeValue, StringTable};
+use dwc_source::{CloneError, CloneSource, text_of};
+use dwc_types::type_of;
+use dwc_unit::{AttributeValue, StringTable};
 use std::alloc::Global;
 
 /// What a function tells of its parameters, in a walk over them in order.
-#[derive(Clone, Copy, Debug, PartialEq, Eq)]
+#[derive(Clone, Copy)]
 pub struct SubprogramContext {
     /// The offset of the entry that it names as its object pointer, 0 where it names none.
     pub obj_ptr: u64,
@@ -50,7 +51,7 @@ pub struct SubprogramContext {
 }
 
 /// How the attributes of an entry are told.
-#[derive(Clone, Copy, Debug, PartialEq, Eq)]
+#[derive(Clone, Copy)]
 pub(crate) enum Telling {
     /// As they are.
     Plain,

@@ -19,25 +19,22 @@ ghost use Rattle.dwc_rules.specs.Clones.{UnitSource, constant_form, constant_bec
 ghost use Rattle.dwc_rules.specs.Drafts.{done};
 ghost use Rattle.dwc_read.specs.EntriesSeen.{entry_view};
 ghost use Rattle.dwc_read.specs.ValuesSeen.{value_view};
-ghost use Rattle.dwc_write.specs.GivenUnits.{FitsValue};
-ghost use Rattle.dwc_clone.specs.declared.places.EmittedEntry.{EmittedEntry};
-ghost use Rattle.dwc_clone.specs.Sources.{AreFiles, IsSource};
-ghost use Rattle.dwc_clone.specs.ClonedUnits.{GivesInForce, clone_rules};
-ghost use Rattle.dwc_clone.specs.KnownTexts.{KnowsTexts};
-ghost use Rattle.dwc_clone.specs.MadeValues.{GivesMade, Grows, Says, SaysMore, any_reference, is_address, own_reference, target_place};
+ghost use Rattle.dwc_unit.specs.GivenUnits.{FitsValue};
+ghost use Rattle.dwc_source.specs.declared.places.EmittedEntry.{EmittedEntry};
+ghost use Rattle.dwc_source.specs.Sources.{AreFiles, IsSource};
+ghost use Rattle.dwc_extents.specs.CodeSources.{GivesInForce, clone_rules};
+ghost use Rattle.dwc_source.specs.KnownTexts.{KnowsTexts};
+ghost use Rattle.dwc_source.specs.MadeValues.{GivesMade, Grows, Says, SaysMore, any_reference, is_address, own_reference, target_place};
 
-use crate::extent::carried_address;
-use crate::lineage::Lineage;
-use crate::location::{output_expression, output_locations};
-use crate::names::is_file_name;
-use crate::ranges::native_ranges;
 use crate::reference::target_place;
-use crate::text::{text_of, text_place_of};
-use crate::{CloneError, CloneSource, KnownTexts, UnitFiles};
 use dwc_base::constants::{DW_FORM_implicit_const, DW_FORM_sdata, DW_FORM_udata};
-use dwc_clif::TargetIsa;
+use dwc_extents::{Lineage, carried_address, native_ranges, output_expression, output_locations};
+use dwc_isa::TargetIsa;
 use dwc_read::{AttributeValue as InputValue, Entry};
-use dwc_write::{AttributeValue, DebugInfoRef, RangeList, StringTable, UnitEntryId, UnitId};
+use dwc_source::{
+    CloneError, CloneSource, KnownTexts, UnitFiles, is_file_name, text_of, text_place_of,
+};
+use dwc_unit::{AttributeValue, DebugInfoRef, RangeList, StringTable, UnitEntryId, UnitId};
 use std::alloc::Global;
 
 // A constant's form in the output, where abbreviations hold no values.

@@ -1,14 +1,11 @@
 //! What pointers and references become: structures that hold an address of linear memory.
 ghost use Rattle.std.specs.Prelude.{◌≡◌, ℕ, List, length, reverse, IfOk, OnOk};
-ghost use Rattle.dwc_write.specs.GivenUnits.{IsAdded, IsReserved, with_reserved};
-ghost use Rattle.dwc_write.specs.TextTables.{IsText};
-ghost use Rattle.dwc_clone.specs.KnownTexts.{IsNumbered};
-ghost use Rattle.dwc_clone.specs.MadeValues.{Grows};
+ghost use Rattle.dwc_unit.specs.GivenUnits.{IsAdded, IsReserved, with_reserved};
+ghost use Rattle.dwc_unit.specs.TextTables.{IsText};
+ghost use Rattle.dwc_source.specs.KnownTexts.{IsNumbered};
+ghost use Rattle.dwc_source.specs.MadeValues.{Grows};
 ghost use Rattle.dwc_clone.specs.OpenWrappers.{AreNext, CanClose, CanCloseAll, HasWrapperTexts, IsOpened, IsOther, closed_from, members_added, method_added, still_open, types_added, with_type, wrapper_added};
 ghost use Rattle.dwc_base.specs.declared.constants.TheConstants.{DW_FORM_data1};
-ghost use Rattle.dwc_rules.specs.Kept.{Placed};
-ghost use Rattle.dwc_rules.specs.Wrappers.{is_wrapped, wrapper_name};
-ghost use Rattle.dwc_read.specs.EntriesSeen.{entry_view};
 
 use crate::made::{MadeValue, add_made, set_values};
 use dwc_base::constants::{
@@ -16,44 +13,10 @@ use dwc_base::constants::{
     DW_AT_type, DW_FORM_data1, DW_TAG_formal_parameter, DW_TAG_member, DW_TAG_pointer_type,
     DW_TAG_reference_type, DW_TAG_subprogram, DW_TAG_template_type_parameter,
 };
-use dwc_read::Entry;
-use dwc_write::{DebugInfoRef, StringId, StringTable, Unit, UnitEntryId, WriteError};
-use std::alloc::{AllocError, Global};
+use dwc_section::WriteError;
+use dwc_source::add_text;
+use dwc_unit::{DebugInfoRef, StringId, StringTable, Unit, UnitEntryId};
 use std::vec::Vec;
-
-/// Whether an entry is wrapped: a pointer or a reference.
-pub(crate) fn is_wrapped(entry: &Entry<'_>) -> bool
-    ensures { (e : Placed) → e.entry ≡ entry_view entry.now → result ≡ is_wrapped e }
-{
-    entry.tag == DW_TAG_pointer_type || entry.tag == DW_TAG_reference_type
-}
-
-// So many bytes of a wrapper's name stand beside the name in it.
-const WRAPPER_LENGTH: usize = 23;
-
-/// The name of a wrapper of an entry of a tag, by the name of what that goes to.
-pub(crate) fn wrapper_name(alloc: Global, tag: u16, name: &[u8]) -> Result<Vec<u8>, AllocError>
-    ensures { IfOk result (λ whole. whole.items ≡ wrapper_name tag name.now) }
-{
-    let mut whole = Vec::with_capacity(alloc, name.len().saturating_add(WRAPPER_LENGTH))?;
-    if tag == DW_TAG_pointer_type {
-        whole.extend_from_slice(b"WebAssemblyPtrWrapper<")?;
-    } else {
-        whole.extend_from_slice(b"WebAssemblyRefWrapper<")?;
-    }
-    whole.extend_from_slice(name)?;
-    whole.extend_from_slice(b">")?;
-    Ok(whole)
-}
-
-/// Adds a text, which has no zero byte.
-pub(crate) fn add_text(strings: &mut StringTable, text: &[u8]) -> Result<StringId, WriteError>
-    requires { IsText text.now }
-    ensures grows { Grows strings.old strings.new }
-    ensures number { IfOk result (IsNumbered strings.new text.now) }
-{
-    strings.add(text)
-}
 
 /// The texts of a wrapper, by their numbers.
 #[derive(Clone, Copy)]

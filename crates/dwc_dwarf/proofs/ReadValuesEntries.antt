@@ -212,8 +212,8 @@ attribute-read name e v is found = go e.attributes is.values found
 -- ---- one by one
 
 -- What holds of all that is listed holds of the first, and of the others.
-pub first-listed : {F A : Type 0} (P : A → Type 0) (x : A) (old new : Listing F A) → old ≡ with_first x new → All P old.items → P x
-first-listed {F} {A} P x old new e h = All-head P x new.items (subst (λ (l : Listing F A). All P l.items) e h)
+pub first-of_listing : {F A : Type 0} (P : A → Type 0) (x : A) (old new : Listing F A) → old ≡ with_first x new → All P old.items → P x
+first-of_listing {F} {A} P x old new e h = All-head P x new.items (subst (λ (l : Listing F A). All P l.items) e h)
 
-pub others-listed : {F A : Type 0} (P : A → Type 0) (x : A) (old new : Listing F A) → old ≡ with_first x new → All P old.items → All P new.items
-others-listed {F} {A} P x old new e h = All-tail P x new.items (subst (λ (l : Listing F A). All P l.items) e h)
+pub others-of_listing : {F A : Type 0} (P : A → Type 0) (x : A) (old new : Listing F A) → old ≡ with_first x new → All P old.items → All P new.items
+others-of_listing {F} {A} P x old new e h = All-tail P x new.items (subst (λ (l : Listing F A). All P l.items) e h)

@@ -126,15 +126,15 @@ pub record ListedLocation : Type 0 where
   pub holds : PlacedExpression
 
 -- what an entry gives, with its expression; none where either is missing
-abbrev pub located : Option Interval × Option PlacedExpression → Option ListedLocation
-located p = option_and_then (λ interval. option_map (λ x. record { over = interval; holds = x }) p.1) p.0
+abbrev pub with_expression : Option Interval × Option PlacedExpression → Option ListedLocation
+with_expression p = option_and_then (λ interval. option_map (λ x. record { over = interval; holds = x }) p.1) p.0
 
 -- The intervals of the location list at a place, with their expressions.
 unfoldable pub locations_at : ListSource → ListPlace → Listing ListRefusal ListedLocation
 locations_at s l = go (raw_locations s l)
   where
     paired : List RawLocation → Listing ListRefusal (Option Interval) → Listing ListRefusal ListedLocation
-    paired raw given = record { items = filter_map located (zip given.items (map (λ r. r.holds) raw)); fault = given.fault }
+    paired raw given = record { items = filter_map with_expression (zip given.items (map (λ r. r.holds) raw)); fault = given.fault }
 
     go : Listing Fault RawLocation → Listing ListRefusal ListedLocation
     go raw = paired raw.items (intervals_given s (list_fault LocationList l) s.first_base (map (λ r. r.says) raw.items) raw.fault)

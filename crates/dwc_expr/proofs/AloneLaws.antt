@@ -19,15 +19,15 @@ use Rattle.dwc_native.specs.Runs.{interval_of}
 use Rattle.dwc_dwarf.specs.Trees.{Location}
 use Rattle.dwc_base.proofs.InLists.{IsIn}
 use Rattle.dwc_native.proofs.LabelRangeMaximal.{label-ranges-maximal}
-use Rattle.dwc_clif.specs.Registers.{Registers}
-use Rattle.dwc_write.specs.declared.expressions.Expression.{Expression}
+use Rattle.dwc_isa.specs.Registers.{Registers}
+use Rattle.dwc_unit.specs.declared.expressions.Expression.{Expression}
 use Rattle.dwc_expr.specs.declared.error.ExprError.{ExprError}
 use Rattle.dwc_expr.specs.declared.frame.FunctionFrameInfo.{FunctionFrameInfo}
 use Rattle.dwc_expr.specs.Alone.{LeadsAlone, PutsAlone, lone_location, lone_refusals}
 use Rattle.dwc_expr.specs.Builds.{Builds, location_view}
-use Rattle.dwc_clif.specs.FlatRanges.{IsFlat}
+use Rattle.dwc_isa.specs.FlatRanges.{IsFlat}
 use Rattle.dwc_expr.specs.Frames.{ToldFrame, told_frame, frame_of, frame_view}
-use Rattle.dwc_expr.specs.Located.{PutsBuilt, put_behind}
+use Rattle.dwc_expr.specs.OverIntervals.{PutsBuilt, put_behind}
 use Rattle.dwc_expr.specs.NarrowedRanges.{Tells}
 use Rattle.dwc_expr.specs.OwnPlaces.{own_function, own_ranges, place_in, are_filled, is_filled}
 use Rattle.dwc_expr.specs.PlacedParts.{PlacedPart, cut_by, cuts_of, cuts_from}

@@ -11,9 +11,9 @@ use Rattle.dwc_native.specs.LabelRanges.{label_ranges, all_bytes_placed}
 use Rattle.dwc_dwarf.specs.Trees.{Location}
 use Rattle.dwc_native.specs.BuiltExpressions.{BuildRefusal, Surroundings, BuiltExpressions, setting_at, memory_of, memory_refusals, label_refusal, place_refusals, jump_refusals, build_refusals, built_on, built_on_ranges, built_over, copied, without_memory}
 use Rattle.dwc_base.specs.Listing.{first_of}
-use Rattle.dwc_clif.specs.Registers.{Registers}
-use Rattle.dwc_expr.specs.declared.cached_range.CachedValueLabelRange.{CachedValueLabelRange}
-use Rattle.dwc_expr.specs.declared.built.BuiltCompiledExpression.{BuiltCompiledExpression}
+use Rattle.dwc_isa.specs.Registers.{Registers}
+use Rattle.dwc_expr.specs.declared.ranges.cached_range.CachedValueLabelRange.{CachedValueLabelRange}
+use Rattle.dwc_expr.specs.declared.build.built.BuiltCompiledExpression.{BuiltCompiledExpression}
 use Rattle.dwc_expr.specs.declared.error.ExprError.{ExprError}
 use Rattle.dwc_expr.specs.declared.frame.FunctionFrameInfo.{FunctionFrameInfo}
 use Rattle.dwc_expr.specs.Builds.{Builds, IsTold, surroundings}

@@ -11,10 +11,10 @@ use Rattle.std.proofs.lemmas.List.Elements.{All-map}
 use Rattle.dwc_native.specs.Placed.{NativeRange}
 use Rattle.dwc_native.specs.LabelRanges.{label_ranges}
 use Rattle.dwc_native.proofs.LabelRangeCoverage.{holds}
-use Rattle.dwc_expr.specs.declared.code_range.CodeRange.{CodeRange}
+use Rattle.dwc_expr.specs.declared.ranges.code_range.CodeRange.{CodeRange}
 use Rattle.dwc_expr.specs.CodeRanges.{code_range_view}
 use Rattle.dwc_expr.specs.JoinedScopes.{IsInOrder, begins_in_last, HaveBytesOf, AreJoined, Adds}
-use Rattle.dwc_clif.proofs.ListEnds.{Ends, ends, all-of-map}
+use Rattle.dwc_isa.proofs.ListEnds.{Ends, ends, all-of-map}
 use Rattle.dwc_expr.proofs.ScopeLaws.{not-less, pairs-map, add-apart, add-joined, joined-are}
 
 -- ---- order

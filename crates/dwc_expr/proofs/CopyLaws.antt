@@ -10,7 +10,7 @@ use Rattle.dwc_dwarf.specs.Trees.{Interval, Location}
 use Rattle.dwc_base.specs.declared.records.Address.{Address}
 use Rattle.dwc_base.specs.declared.records.Address.TheVariants.{Symbol}
 use Rattle.dwc_addr.specs.Translations.{with_length, with_lengths}
-use Rattle.dwc_write.specs.RangeLists as given
+use Rattle.dwc_unit.specs.RangeLists as given
 use Rattle.dwc_expr.specs.Copies.{copy_at}
 
 -- a range that has a byte, by its begin and its length, is the interval

@@ -10,7 +10,7 @@ use Rattle.dwc_native.specs.Compiled.{LabelRange}
 use Rattle.dwc_native.specs.Placed.{NativeRange, is_number, is_byte_of}
 use Rattle.dwc_base.proofs.InLists.{IsIn, at-in, in-append, in-filter_map, filter_map-in, map-in, in-any}
 use Rattle.dwc_native.proofs.LabelRangeCoverage.{holds, hold, Held, held}
-use Rattle.dwc_clif.specs.FlatRanges.{IsFlat}
+use Rattle.dwc_isa.specs.FlatRanges.{IsFlat}
 use Rattle.dwc_expr.specs.PlacedParts.{PlacedPart, cut_by, cuts_of, cuts_from, EndBy}
 use Rattle.dwc_expr.proofs.PairLaws.{Pairs, pairs-append, pairs-filter_map, filter-none, all-in}
 use Rattle.dwc_expr.proofs.PieceLaws.{behind-end}

@@ -6,10 +6,10 @@ use Rattle.std.proofs.lemmas.List.{get_or-map, length-map, at_drop_more, drop_al
 use Rattle.dwc_native.specs.Compiled.{LabelRange}
 use Rattle.dwc_native.specs.Placed.{NativeRange, is_number}
 use Rattle.dwc_native.specs.LabelRanges.{IsBefore}
-use Rattle.dwc_clif.specs.declared.value_label.ValueLocRange.{ValueLocRange}
-use Rattle.dwc_clif.specs.declared.value_label.LabelValueLoc.TheVariants.{Reg}
-use Rattle.dwc_clif.specs.ValueLabels.{range_view}
-use Rattle.dwc_clif.specs.FlatRanges.{IsFlat}
+use Rattle.dwc_isa.specs.declared.value_label.ValueLocRange.{ValueLocRange}
+use Rattle.dwc_isa.specs.declared.value_label.LabelValueLoc.TheVariants.{Reg}
+use Rattle.dwc_isa.specs.ValueLabels.{range_view}
+use Rattle.dwc_isa.specs.FlatRanges.{IsFlat}
 use Rattle.dwc_expr.specs.PlacedParts.{PlacedPart, cut_by, cuts_of, cuts_from, AllPassed, EndBy}
 use Rattle.dwc_expr.proofs.PieceLaws.{end-more}
 use Rattle.dwc_expr.proofs.CutLaws.{cuts-done, cuts-step}

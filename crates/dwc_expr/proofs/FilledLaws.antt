@@ -8,9 +8,9 @@ use Rattle.dwc_native.specs.Compiled.{LabelRange}
 use Rattle.dwc_native.specs.Placed.{NativeRange, is_number, last_place}
 use Rattle.dwc_native.specs.LabelRanges.{bytes_of}
 use Rattle.dwc_base.proofs.InLists.{IsIn, at-in}
-use Rattle.dwc_clif.specs.declared.value_label.ValueLocRange.{ValueLocRange}
-use Rattle.dwc_clif.specs.ValueLabels.{range_view}
-use Rattle.dwc_clif.specs.FlatRanges.{IsFlat}
+use Rattle.dwc_isa.specs.declared.value_label.ValueLocRange.{ValueLocRange}
+use Rattle.dwc_isa.specs.ValueLabels.{range_view}
+use Rattle.dwc_isa.specs.FlatRanges.{IsFlat}
 use Rattle.dwc_expr.specs.OwnPlaces.{is_filled, are_filled}
 use Rattle.dwc_expr.specs.PlacedParts.{EndBy}
 use Rattle.dwc_expr.proofs.PairLaws.{bytes-true, true-bytes}

@@ -7,9 +7,9 @@ use Rattle.std.proofs.lemmas.List.Elements.{All-contains}
 use Rattle.dwc_native.specs.Compiled.{Place, in_register, at_frame_offset, LabelRange}
 use Rattle.dwc_native.specs.Placed.{is_between, last_place, same_place}
 use Rattle.dwc_base.proofs.InLists.{IsIn, in-contains}
-use Rattle.dwc_clif.specs.FlatRanges.{IsFlat}
-use Rattle.dwc_clif.proofs.PlaceLaws.{alone-inside, alone-below, alone-behind, first-answers, others-answer, none-below}
-use Rattle.dwc_clif.proofs.PutLaws.{First, first-of}
+use Rattle.dwc_isa.specs.FlatRanges.{IsFlat}
+use Rattle.dwc_isa.proofs.PlaceLaws.{alone-inside, alone-below, alone-behind, first-answers, others-answer, none-below}
+use Rattle.dwc_isa.proofs.PutLaws.{First, first-of}
 
 -- what all have, one of them has
 all-in : {A : Type 0} (P : A → Type 0) (xs : List A) (x : A) → All P xs → IsIn x xs → P x

@@ -15,8 +15,8 @@ use Rattle.dwc_native.specs.LabelRanges.{AreLabelRanges, AreMaximal, AtEachByte,
 use Rattle.dwc_native.specs.BuiltExpressions.{has_bad_range}
 use Rattle.dwc_base.proofs.InLists.{IsIn, in-any}
 use Rattle.dwc_native.proofs.LabelRangeMaximal.{label-ranges-maximal}
-use Rattle.dwc_clif.specs.ValueLabels.{place_view}
-use Rattle.dwc_expr.specs.declared.cached_range.CachedValueLabelRange.{CachedValueLabelRange}
+use Rattle.dwc_isa.specs.ValueLabels.{place_view}
+use Rattle.dwc_expr.specs.declared.ranges.cached_range.CachedValueLabelRange.{CachedValueLabelRange}
 use Rattle.dwc_expr.specs.Frames.{ToldFrame, frame_of}
 use Rattle.dwc_expr.specs.LabelRanges.{Gathered, gathered_frame, with_label, bounds_of, location_in, SaysPlaces, HasPlaces, GivesRanges}
 use Rattle.dwc_expr.specs.NarrowedRanges.{IsMadeBy, IsMadeIn, Tells}

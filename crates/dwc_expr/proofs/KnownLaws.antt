@@ -7,9 +7,9 @@ use Rattle.dwc_native.specs.Built.{Setting, distance_of, jump_length}
 use Rattle.dwc_native.specs.Parts.{Part, code, local, dereference, jump, landing_pad, is_jump}
 use Rattle.dwc_native.specs.Placed.{label_needed}
 use Rattle.dwc_base.proofs.InLists.{IsIn, any-in, in-any, append-left, append-right, map-in, filter_map-in}
-use Rattle.dwc_expr.specs.declared.cached_range.CachedValueLabelRange.{CachedValueLabelRange}
-use Rattle.dwc_expr.specs.declared.pads.Pads.{Pads}
-use Rattle.dwc_expr.specs.declared.parts_to_build.PartsToBuild.{PartsToBuild}
+use Rattle.dwc_expr.specs.declared.ranges.cached_range.CachedValueLabelRange.{CachedValueLabelRange}
+use Rattle.dwc_expr.specs.declared.build.pads.Pads.{Pads}
+use Rattle.dwc_expr.specs.declared.build.parts_to_build.PartsToBuild.{PartsToBuild}
 use Rattle.dwc_expr.specs.Jumps.{pad_in, distance_by, KnowsPad, FindsPads, KnowsPads}
 use Rattle.dwc_expr.specs.LabelRanges.{location_in, IsPlacedOn, HasPlaces}
 use Rattle.dwc_expr.specs.NeededLabels.{HaveSameFirsts}

@@ -7,7 +7,7 @@ use Rattle.dwc_native.specs.Parts.{dereference, context_label}
 use Rattle.dwc_native.specs.BuiltExpressions.{bad_label_range, has_bad_range, label_refusal}
 use Rattle.dwc_native.specs.Placed.{Frame, label_needed}
 use Rattle.dwc_base.specs.Listing.{first_of}
-use Rattle.dwc_clif.specs.declared.value_label.ValueLabel.{ValueLabel}
+use Rattle.dwc_isa.specs.declared.value_label.ValueLabel.{ValueLabel}
 use Rattle.dwc_expr.specs.declared.part.CompiledExpressionPart.{CompiledExpressionPart}
 use Rattle.dwc_expr.specs.NeededLabels.{HaveSameFirsts, numbers}
 use Rattle.dwc_expr.specs.PartViews.{part_view}

@@ -16,7 +16,7 @@ pub mod JumpLaws
 mod KnownLaws
 pub mod LabelLaws
 mod LandingLaws
-pub mod LocatedLaws
+pub mod OverIntervalLaws
 pub mod MadeLaws
 pub mod NarrowLaws
 pub mod PairLaws

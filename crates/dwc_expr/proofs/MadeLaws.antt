@@ -6,7 +6,7 @@ use Rattle.std.proofs.lemmas.Bool.{le-ltb, lt-ltb}
 use Rattle.dwc_native.specs.Compiled.{LabelRange}
 use Rattle.dwc_native.specs.Placed.{NativeRange}
 use Rattle.dwc_base.proofs.InLists.{IsIn}
-use Rattle.dwc_expr.specs.declared.cached_range.CachedValueLabelRange.{CachedValueLabelRange}
+use Rattle.dwc_expr.specs.declared.ranges.cached_range.CachedValueLabelRange.{CachedValueLabelRange}
 use Rattle.dwc_expr.specs.NarrowedRanges.{Appends, IsMadeOf, IsMadeBy, IsMadeIn}
 use Rattle.dwc_expr.specs.LabelRanges.{bounds_of}
 use Rattle.dwc_expr.specs.PlacedParts.{PlacedPart, cut_by}

@@ -5,7 +5,7 @@ use Rattle.dwc_native.specs.Built.{Setting, part_bytes, part_length, distance_of
 use Rattle.dwc_native.specs.Parts.{Part, code, local, dereference, jump, landing_pad}
 use Rattle.dwc_base.proofs.InLists.{IsIn, at-in, map-in}
 use Rattle.dwc_expr.specs.declared.error.ExprError.{ExprError}
-use Rattle.dwc_expr.specs.declared.pads.Pads.{Pads}
+use Rattle.dwc_expr.specs.declared.build.pads.Pads.{Pads}
 use Rattle.dwc_expr.specs.declared.part.CompiledExpressionPart.{CompiledExpressionPart}
 use Rattle.dwc_expr.specs.Jumps.{pad_in, distance_by, unless_fit, KnowsPad, KnowsPads, GivesDistance}
 use Rattle.dwc_expr.specs.PartViews.{part_view}

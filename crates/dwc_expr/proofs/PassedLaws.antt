@@ -7,10 +7,10 @@ use Rattle.std.proofs.lemmas.List.{get_or_default, get_or-map, get_or-take, leng
 use Rattle.dwc_native.specs.Compiled.{LabelRange}
 use Rattle.dwc_native.specs.Placed.{NativeRange, is_number}
 use Rattle.dwc_native.specs.LabelRanges.{IsBefore}
-use Rattle.dwc_clif.specs.declared.value_label.ValueLocRange.{ValueLocRange}
-use Rattle.dwc_clif.specs.FlatRanges.{IsFlat}
-use Rattle.dwc_clif.specs.ValueLabels.{range_view}
-use Rattle.dwc_clif.proofs.FlatLaws.{no_range}
+use Rattle.dwc_isa.specs.declared.value_label.ValueLocRange.{ValueLocRange}
+use Rattle.dwc_isa.specs.FlatRanges.{IsFlat}
+use Rattle.dwc_isa.specs.ValueLabels.{range_view}
+use Rattle.dwc_isa.proofs.FlatLaws.{no_range}
 use Rattle.dwc_expr.specs.PlacedParts.{AllPassed, EndBy}
 use Rattle.dwc_expr.proofs.PieceLaws.{end-later}
 use Rattle.dwc_expr.proofs.CutWalkLaws.{IsAt, inside-seen, own-before, some-here}

@@ -8,7 +8,7 @@ use Rattle.std.proofs.lemmas.List.Elements.{All-weaker, All-more}
 use Rattle.dwc_native.specs.Compiled.{Place, LabelRange}
 use Rattle.dwc_native.specs.Placed.{is_between, last_place}
 use Rattle.dwc_base.proofs.InLists.{IsIn, in-append}
-use Rattle.dwc_clif.specs.FlatRanges.{IsFlat}
+use Rattle.dwc_isa.specs.FlatRanges.{IsFlat}
 use Rattle.dwc_expr.specs.PlacedParts.{EndBy}
 use Rattle.dwc_expr.proofs.PairLaws.{Pairs, pairs-from, all-in}
 

@@ -5,9 +5,9 @@ use Rattle.std.proofs.lemmas.List.{at_drop_more}
 use Rattle.dwc_native.specs.Compiled.{Place, no_memory}
 use Rattle.dwc_native.specs.BuiltExpressions.{BuildRefusal, register_refusal, register_refusal_at}
 use Rattle.dwc_base.specs.Listing.{first_of}
-use Rattle.dwc_clif.specs.Registers.{Registers}
-use Rattle.dwc_clif.specs.declared.value_label.ValueLabel.{ValueLabel}
-use Rattle.dwc_expr.specs.declared.cached_range.CachedValueLabelRange.{CachedValueLabelRange}
+use Rattle.dwc_isa.specs.Registers.{Registers}
+use Rattle.dwc_isa.specs.declared.value_label.ValueLabel.{ValueLabel}
+use Rattle.dwc_expr.specs.declared.ranges.cached_range.CachedValueLabelRange.{CachedValueLabelRange}
 use Rattle.dwc_expr.specs.LabelRanges.{location_in}
 use Rattle.dwc_expr.specs.NeededLabels.{numbers}
 use Rattle.dwc_expr.specs.RangeSettings.{setting_in}

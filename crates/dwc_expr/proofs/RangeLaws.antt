@@ -16,8 +16,8 @@ use Rattle.dwc_base.specs.Listing.{first_of}
 use Rattle.dwc_native.specs.Runs.{interval_of}
 use Rattle.dwc_dwarf.specs.Trees.{Location}
 use Rattle.dwc_native.proofs.LabelRangeLaws.{label-ranges}
-use Rattle.dwc_clif.specs.Registers.{Registers}
-use Rattle.dwc_expr.specs.declared.cached_range.CachedValueLabelRange.{CachedValueLabelRange}
+use Rattle.dwc_isa.specs.Registers.{Registers}
+use Rattle.dwc_expr.specs.declared.ranges.cached_range.CachedValueLabelRange.{CachedValueLabelRange}
 use Rattle.dwc_expr.specs.LabelRanges.{bounds_of, location_in, SaysPlaces}
 use Rattle.dwc_expr.specs.NeededLabels.{HaveSameFirsts}
 use Rattle.dwc_expr.specs.RangeExpressions.{IsLowRange, location_on, jumps_refused}

@@ -15,8 +15,8 @@ use Rattle.dwc_native.proofs.LabelRangeCoverage.{holds, hold}
 use Rattle.dwc_native.proofs.LabelRangeUnique.{maximal-ranges-are}
 use Rattle.dwc_expr.specs.JoinedScopes.{IsInOrder, begins_in, begins_in_last, IsApart, AreApart, AreJoined, IsAdded, Adds}
 use Rattle.dwc_expr.proofs.CutWalkLaws.{IsAt, some-here}
-use Rattle.dwc_clif.proofs.ListEnds.{all-front, all-last, pairs-front, pairs-last, pairs-push, Ends, ends, last_of-end}
-use Rattle.dwc_clif.proofs.PlaceLaws.{between-inside, between-below, between-behind}
+use Rattle.dwc_isa.proofs.ListEnds.{all-front, all-last, pairs-front, pairs-last, pairs-push, Ends, ends, last_of-end}
+use Rattle.dwc_isa.proofs.PlaceLaws.{between-inside, between-below, between-behind}
 
 -- ---- order
 

@@ -10,7 +10,7 @@ use Rattle.dwc_native.specs.Parts.{CompiledParts, compiled, compiled_behind, com
 use Rattle.dwc_base.specs.Reading.{Unread, ◌>>=◌, seen_as, bytes_at, number_at, sleb_at, uleb_at, uleb_value, uleb_with}
 use Rattle.dwc_dwarf.specs.Values.{sized_number_at}
 use Rattle.dwc_base.proofs.LebLaws.{uleb_at-fits}
-use Rattle.dwc_expr.specs.Located.{constant}
+use Rattle.dwc_expr.specs.OverIntervals.{constant}
 use Rattle.dwc_tabs.proofs.OperationLaws.{operations-more, operations-end}
 
 module _ (index : ℕ) (small : index < 128) where

@@ -2,8 +2,8 @@
 use Rattle.std.specs.Prelude.{◌≡◌, ◌≤◌, ℕ, ℤ, pos, int_lt, int_le, Bool, true, false, not, ◌&&◌, Option, Some, None}
 use Rattle.dwc_dwarf.specs.Operations.{Operation, target}
 use Rattle.dwc_native.specs.Parts.{Rule, loads_local, adds_to_frame_base, jumps, reads_memory, shifts_right, stays, is_supported_by}
-use Rattle.dwc_expr.specs.declared.action.Action.{Action}
-use Rattle.dwc_expr.specs.declared.action.Action.TheVariants.{LoadLocal, AddToFrameBase, Jump, ReadMemory, ShiftRight, Stay}
+use Rattle.dwc_expr.specs.declared.compile.action.Action.{Action}
+use Rattle.dwc_expr.specs.declared.compile.action.Action.TheVariants.{LoadLocal, AddToFrameBase, Jump, ReadMemory, ShiftRight, Stay}
 
 -- An action is what a rule makes of an operation, with the operation's local and with where it jumps to.
 abbrev pub IsActionOf : Option Rule → Operation → Action → Type 0

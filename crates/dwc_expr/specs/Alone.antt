@@ -12,13 +12,13 @@ use Rattle.dwc_native.specs.Placed.{Frame}
 use Rattle.dwc_base.specs.Listing.{first_of}
 use Rattle.dwc_native.specs.Runs.{interval_of}
 use Rattle.dwc_dwarf.specs.Trees.{Location}
-use Rattle.dwc_clif.specs.Registers.{Registers}
-use Rattle.dwc_clif.specs.ValueLabels.{place_view, range_view}
-use Rattle.dwc_clif.specs.declared.value_label.LabelValueLoc.{LabelValueLoc}
-use Rattle.dwc_clif.specs.declared.value_label.ValueLocRange.{ValueLocRange}
-use Rattle.dwc_write.specs.declared.expressions.Expression.{Expression}
-use Rattle.dwc_expr.specs.declared.alone.LoneLocal.{LoneLocal}
-use Rattle.dwc_expr.specs.declared.code_range.CodeRange.{CodeRange}
+use Rattle.dwc_isa.specs.Registers.{Registers}
+use Rattle.dwc_isa.specs.ValueLabels.{place_view, range_view}
+use Rattle.dwc_isa.specs.declared.value_label.LabelValueLoc.{LabelValueLoc}
+use Rattle.dwc_isa.specs.declared.value_label.ValueLocRange.{ValueLocRange}
+use Rattle.dwc_unit.specs.declared.expressions.Expression.{Expression}
+use Rattle.dwc_expr.specs.declared.build.alone.LoneLocal.{LoneLocal}
+use Rattle.dwc_expr.specs.declared.ranges.code_range.CodeRange.{CodeRange}
 use Rattle.dwc_expr.specs.declared.error.ExprError.{ExprError}
 use Rattle.dwc_expr.specs.Builds.{location_view}
 use Rattle.dwc_expr.specs.CodeRanges.{code_range_view}

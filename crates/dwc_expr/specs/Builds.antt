@@ -5,10 +5,10 @@ use Rattle.dwc_base.specs.declared.records.Address.{Address}
 use Rattle.dwc_native.specs.Functions.{Function}
 use Rattle.dwc_dwarf.specs.Trees.{Location}
 use Rattle.dwc_native.specs.BuiltExpressions.{BuildRefusal, Surroundings, BuiltExpressions}
-use Rattle.dwc_clif.specs.Registers.{Registers}
-use Rattle.dwc_write.specs.declared.expressions.Expression.{Expression}
-use Rattle.dwc_write.specs.RangeLists.{interval_of}
-use Rattle.dwc_expr.specs.declared.built.BuiltCompiledExpression.{BuiltCompiledExpression}
+use Rattle.dwc_isa.specs.Registers.{Registers}
+use Rattle.dwc_unit.specs.declared.expressions.Expression.{Expression}
+use Rattle.dwc_unit.specs.RangeLists.{interval_of}
+use Rattle.dwc_expr.specs.declared.build.built.BuiltCompiledExpression.{BuiltCompiledExpression}
 use Rattle.dwc_expr.specs.declared.error.ExprError.{ExprError}
 use Rattle.dwc_expr.specs.declared.error.ExprError.TheVariants.{OutOfMemory}
 use Rattle.dwc_expr.specs.declared.frame.FunctionFrameInfo.{FunctionFrameInfo}

@@ -2,18 +2,11 @@
 use Rattle.std.specs.Prelude.{ℕ, [], Option, option_map}
 use Rattle.std.specs.Option.{unwrap_or}
 use Rattle.std.specs.FinMap as finite
-use Rattle.dwc_native.specs.Compiled.{Memory, no_memory, defined, imported}
+use Rattle.dwc_native.specs.Compiled.{Memory}
 use Rattle.dwc_native.specs.Placed.{Frame}
-use Rattle.dwc_clif.specs.ValueLabels.{LabelledRanges}
-use Rattle.dwc_addr.specs.declared.memory_offset.ModuleMemoryOffset.{ModuleMemoryOffset}
-use Rattle.dwc_addr.specs.declared.memory_offset.ModuleMemoryOffset.TheVariants as offset
+use Rattle.dwc_isa.specs.ValueLabels.{LabelledRanges}
+use Rattle.dwc_isa.specs.ToldModules.{memory_view}
 use Rattle.dwc_expr.specs.declared.frame.FunctionFrameInfo.{FunctionFrameInfo}
-
--- the linear memory of a module
-abbrev pub memory_view : ModuleMemoryOffset → Memory
-memory_view offset.None = no_memory
-memory_view (offset.Defined o) = defined o
-memory_view (offset.Imported a b) = imported a b
 
 -- a frame as it is told: by a map from labels
 pub record ToldFrame : Type 0 where

@@ -8,7 +8,7 @@ use Rattle.dwc_native.specs.Built.{Setting, pad_offset, jump_length, is_16_bit, 
 use Rattle.dwc_native.specs.Parts.{Part, jump, landing_pad}
 use Rattle.dwc_expr.specs.declared.error.ExprError.{ExprError}
 use Rattle.dwc_expr.specs.declared.error.ExprError.TheVariants.{TooLarge}
-use Rattle.dwc_expr.specs.declared.pads.Pads.{Pads}
+use Rattle.dwc_expr.specs.declared.build.pads.Pads.{Pads}
 use Rattle.dwc_expr.specs.Refusals.{TellsFirst}
 use Rattle.dwc_expr.specs.WholeParts.{jump_place, has_pad}
 

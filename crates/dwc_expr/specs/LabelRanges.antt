@@ -9,11 +9,11 @@ use Rattle.dwc_native.specs.Parts.{Part}
 use Rattle.dwc_native.specs.Placed.{Frame, placed, label_needed, NativeRange, scope_ranges}
 use Rattle.dwc_native.specs.LabelRanges.{label_ranges, all_bytes_placed}
 use Rattle.dwc_native.specs.BuiltExpressions.{has_bad_range}
-use Rattle.dwc_clif.specs.ValueLabels.{place_view}
+use Rattle.dwc_isa.specs.ValueLabels.{place_view}
 use Rattle.dwc_expr.specs.Frames.{ToldFrame, frame_of}
 use Rattle.dwc_expr.specs.declared.error.ExprError.{ExprError}
 use Rattle.dwc_expr.specs.declared.error.ExprError.TheVariants.{Read, TooLarge, BadLabelRange, InvalidAttributeValue, UnmappedRegister, OutOfMemory}
-use Rattle.dwc_expr.specs.declared.cached_range.CachedValueLabelRange.{CachedValueLabelRange}
+use Rattle.dwc_expr.specs.declared.ranges.cached_range.CachedValueLabelRange.{CachedValueLabelRange}
 
 -- What is gathered so far: the frame, if there is one; whether the scope has an interval; the native ranges of its intervals, in
 -- order; and the labels that were processed, in order.

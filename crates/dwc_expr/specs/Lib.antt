@@ -11,7 +11,7 @@ pub mod JoinedScopes
 pub mod Jumps
 pub mod LabelRanges
 pub mod Landings
-pub mod Located
+pub mod OverIntervals
 pub mod NarrowedRanges
 pub mod NeededLabels
 pub mod OwnPlaces

@@ -4,12 +4,12 @@ use Rattle.std.specs.List.{AllZip}
 use Rattle.dwc_native.specs.BuiltExpressions.{has_bad_range}
 use Rattle.dwc_native.specs.Compiled.{LabelRange, Place}
 use Rattle.dwc_native.specs.Placed.{Frame, NativeRange, placed}
-use Rattle.dwc_expr.specs.declared.cached_range.CachedValueLabelRange.{CachedValueLabelRange}
+use Rattle.dwc_expr.specs.declared.ranges.cached_range.CachedValueLabelRange.{CachedValueLabelRange}
 use Rattle.dwc_expr.specs.declared.error.ExprError.{ExprError}
 use Rattle.dwc_expr.specs.declared.error.ExprError.TheVariants.{Read, TooLarge, BadLabelRange, InvalidAttributeValue, UnmappedRegister, OutOfMemory}
-use Rattle.dwc_expr.specs.declared.label_ranges.BuiltValueLabelRanges.{BuiltValueLabelRanges}
+use Rattle.dwc_expr.specs.declared.ranges.label_ranges.BuiltValueLabelRanges.{BuiltValueLabelRanges}
 use Rattle.dwc_expr.specs.Frames.{ToldFrame, frame_of}
-use Rattle.dwc_clif.specs.FlatRanges.{IsFlat}
+use Rattle.dwc_isa.specs.FlatRanges.{IsFlat}
 use Rattle.dwc_expr.specs.LabelRanges.{Gathered, gathered_frame, with_label, bounds_of, location_in, GivesRanges}
 use Rattle.dwc_expr.specs.OwnPlaces.{place_in}
 use Rattle.dwc_expr.specs.PlacedParts.{PlacedPart}

@@ -6,9 +6,9 @@ use Rattle.std.specs.Ordering.{nat_cmp}
 use Rattle.dwc_dwarf.specs.Values.{is_one_of}
 use Rattle.dwc_native.specs.BuiltExpressions.{label_refusal}
 use Rattle.dwc_base.specs.Listing.{first_of}
-use Rattle.dwc_clif.specs.declared.value_label.ValueLabel.{ValueLabel}
+use Rattle.dwc_isa.specs.declared.value_label.ValueLabel.{ValueLabel}
 use Rattle.dwc_expr.specs.declared.error.ExprError.{ExprError}
-use Rattle.dwc_expr.specs.declared.label_ranges.BuiltValueLabelRanges.{BuiltValueLabelRanges}
+use Rattle.dwc_expr.specs.declared.ranges.label_ranges.BuiltValueLabelRanges.{BuiltValueLabelRanges}
 use Rattle.dwc_expr.specs.LabelRanges.{Gathered, gathered_frame, GivesRanges}
 use Rattle.dwc_expr.specs.Refusals.{TellsFirst}
 

@@ -2,7 +2,7 @@
 use Rattle.std.specs.Prelude.{ℕ, List, [], ◌∷◌, ◌++◌, map, filter_map, if◌then◌else◌}
 use Rattle.dwc_native.specs.Parts.{Part, dereference}
 use Rattle.dwc_native.specs.Placed.{label_needed}
-use Rattle.dwc_expr.specs.declared.parts_to_build.PartsToBuild.{PartsToBuild}
+use Rattle.dwc_expr.specs.declared.build.parts_to_build.PartsToBuild.{PartsToBuild}
 use Rattle.dwc_expr.specs.PartViews.{part_view}
 
 -- the parts, and behind them the one that makes an address of the result, if there is one

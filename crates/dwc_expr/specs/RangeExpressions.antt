@@ -10,9 +10,9 @@ use Rattle.dwc_native.specs.Parts.{Part}
 use Rattle.dwc_base.specs.Listing.{first_of}
 use Rattle.dwc_native.specs.Runs.{interval_of}
 use Rattle.dwc_dwarf.specs.Trees.{Location}
-use Rattle.dwc_clif.specs.Registers.{Registers}
-use Rattle.dwc_write.specs.declared.expressions.Expression.{Expression}
-use Rattle.dwc_expr.specs.declared.cached_range.CachedValueLabelRange.{CachedValueLabelRange}
+use Rattle.dwc_isa.specs.Registers.{Registers}
+use Rattle.dwc_unit.specs.declared.expressions.Expression.{Expression}
+use Rattle.dwc_expr.specs.declared.ranges.cached_range.CachedValueLabelRange.{CachedValueLabelRange}
 use Rattle.dwc_expr.specs.declared.error.ExprError.{ExprError}
 use Rattle.dwc_expr.specs.Builds.{location_view}
 use Rattle.dwc_expr.specs.Jumps.{unless_fit}

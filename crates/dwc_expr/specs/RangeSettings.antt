@@ -3,10 +3,10 @@ use Rattle.std.specs.Prelude.{None}
 use Rattle.std.specs.FinMap as finite
 use Rattle.dwc_native.specs.Compiled.{Memory, no_memory}
 use Rattle.dwc_native.specs.Built.{Setting}
-use Rattle.dwc_clif.specs.Registers.{Registers}
-use Rattle.dwc_expr.specs.declared.cached_range.CachedValueLabelRange.{CachedValueLabelRange}
-use Rattle.dwc_expr.specs.declared.setting.RangeSetting.{RangeSetting}
-use Rattle.dwc_expr.specs.Frames.{memory_view}
+use Rattle.dwc_isa.specs.Registers.{Registers}
+use Rattle.dwc_expr.specs.declared.ranges.cached_range.CachedValueLabelRange.{CachedValueLabelRange}
+use Rattle.dwc_expr.specs.declared.build.setting.RangeSetting.{RangeSetting}
+use Rattle.dwc_isa.specs.ToldModules.{memory_view}
 use Rattle.dwc_expr.specs.LabelRanges.{location_in}
 
 -- the places that a range tells, with the registers of a target and a linear memory

@@ -4,8 +4,8 @@ use Rattle.std.specs.List.{filter_map}
 use Rattle.dwc_base.specs.Listing.{first_of}
 use Rattle.dwc_native.specs.Compiled.{no_memory}
 use Rattle.dwc_native.specs.BuiltExpressions.{BuildRefusal, register_refusal, without_memory}
-use Rattle.dwc_clif.specs.Registers.{Registers}
-use Rattle.dwc_expr.specs.declared.cached_range.CachedValueLabelRange.{CachedValueLabelRange}
+use Rattle.dwc_isa.specs.Registers.{Registers}
+use Rattle.dwc_expr.specs.declared.ranges.cached_range.CachedValueLabelRange.{CachedValueLabelRange}
 use Rattle.dwc_expr.specs.declared.error.ExprError.{ExprError}
 use Rattle.dwc_expr.specs.declared.error.ExprError.TheVariants.{OutOfMemory}
 use Rattle.dwc_expr.specs.Errors.{refusal_told}

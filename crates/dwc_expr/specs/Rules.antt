@@ -1,8 +1,8 @@
 -- What becomes of operations by their codes, as the definitions have it.
 use Rattle.std.specs.Prelude.{}
 use Rattle.dwc_native.specs.Parts as definitions
-use Rattle.dwc_expr.specs.declared.rule.Rule.{Rule}
-use Rattle.dwc_expr.specs.declared.rule.Rule.TheVariants.{LoadsLocal, AddsToFrameBase, Jumps, ReadsMemory, ShiftsRight, Stays}
+use Rattle.dwc_expr.specs.declared.compile.rule.Rule.{Rule}
+use Rattle.dwc_expr.specs.declared.compile.rule.Rule.TheVariants.{LoadsLocal, AddsToFrameBase, Jumps, ReadsMemory, ShiftsRight, Stays}
 
 -- a rule
 abbrev pub rule_view : Rule → definitions.Rule

@@ -5,16 +5,25 @@ ghost use Rattle.dwc_expr.specs.Compiles.{Compiles};
 ghost use Rattle.dwc_expr.specs.Supported.{compiled_supported};
 ghost use Rattle.dwc_expr.specs.WholeParts.{JumpsLand};
 
-use crate::emit::parts_of_steps;
-use crate::landings::landings;
+pub(crate) mod action;
+pub(crate) mod emit;
+pub(crate) mod joined_parts;
+pub(crate) mod landings;
+pub(crate) mod rule;
+pub(crate) mod short;
+pub(crate) mod step;
+pub(crate) mod steps;
+
+use crate::compile::emit::parts_of_steps;
+use crate::compile::landings::landings;
+use crate::compile::short::short_local;
+use crate::compile::step::Step;
+use crate::compile::steps::read_steps;
 use crate::part::any_is_jump;
-use crate::short::short_local;
-use crate::step::Step;
-use crate::steps::read_steps;
 use crate::{CompiledExpression, ExprError};
 use dwc_base::Encoding;
 use dwc_base::constants::DW_OP_stack_value;
-use dwc_clif::ValueLabel;
+use dwc_isa::ValueLabel;
 use std::alloc::Global;
 
 // Whether some part of a frame base is a jump.

@@ -1,6 +1,6 @@
 //! Why an expression is not compiled or not built.
 use dwc_base::{SectionName, What};
-use dwc_clif::{Reg, ValueLabel};
+use dwc_isa::{Reg, ValueLabel};
 use std::alloc::{AllocError, AllocFailed};
 use thiserror::Error;
 

@@ -6,8 +6,8 @@ ghost use Rattle.dwc_expr.specs.PartViews.{part_view};
 ghost use Rattle.dwc_expr.specs.declared.error.ExprError.TheVariants.{OutOfMemory};
 
 use crate::{CompiledExpressionPart, ExprError};
-use dwc_clif::{ValueLabel, get_vmctx_value_label};
-use dwc_write::Expression;
+use dwc_isa::{ValueLabel, get_vmctx_value_label};
+use dwc_unit::Expression;
 use std::alloc::{AllocError, Global};
 use std::marker::Model;
 

@@ -1,6 +1,5 @@
 //! What is known of the function in whose frame an expression is evaluated.
-use dwc_addr::ModuleMemoryOffset;
-use dwc_clif::ValueLabelsRanges;
+use dwc_isa::{ModuleMemoryOffset, ValueLabelsRanges};
 
 /// What a function tells to the expressions of its entries.
 #[derive(Clone, Copy)]

@@ -4,10 +4,10 @@ ghost use Rattle.std.specs.List.{list_any};
 ghost use Rattle.dwc_native.specs.Parts.{is_jump};
 ghost use Rattle.dwc_expr.specs.PartViews.{part_view};
 
-use dwc_clif::ValueLabel;
+use dwc_isa::ValueLabel;
 
 /// A part of a compiled expression.
-#[derive(Debug, Drop)]
+#[derive(Drop)]
 pub enum CompiledExpressionPart {
     /// Operations that stay as they are, as their bytes.
     Code(Vec<u8>),

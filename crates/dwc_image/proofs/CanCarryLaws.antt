@@ -17,7 +17,7 @@ use Rattle.dwc_dwarf.specs.LineRows.{LineTable, LineStep, start, row, end, segme
 use Rattle.dwc_base.specs.Sections.{Sections, Fault, section_from, reported}
 use Rattle.dwc_dwarf.specs.LineFiles.{names_file, has_names, is_named, has_all_files}
 use Rattle.dwc_tabs.specs.OpenTables.{OpenLines}
-use Rattle.dwc_write.specs.SpelledLines.{FitsName}
+use Rattle.dwc_unit.specs.SpelledLines.{FitsName}
 use Rattle.dwc_image.specs.ImageSequences.{FitsStep}
 use Rattle.dwc_image.specs.ImageRows.{RowsRise}
 use Rattle.dwc_image.specs.CarriedLines.{carried_number, carried_step, carried_steps, FitsDirectories, IsRead}

@@ -3,10 +3,10 @@
 use Rattle.std.proofs.Common.{◌≡◌, ℕ, zero, suc, List, [], ◌∷◌, map, refl}
 use Rattle.dwc_base.specs.declared.records.LineRow.{LineRow}
 use Rattle.dwc_dwarf.specs.LineRows.{LineTable, named_row, source_file}
-use Rattle.dwc_write.specs.SpelledLines.{WrittenSequence, read_segment}
-use Rattle.dwc_write.specs.GivenLines.{GivenLines}
+use Rattle.dwc_unit.specs.SpelledLines.{WrittenSequence, read_segment}
+use Rattle.dwc_unit.specs.GivenLines.{GivenLines}
 use Rattle.dwc_image.proofs.CarriedTables.{as_carried}
-use Rattle.dwc_write.specs.ReadBack.{given_file, given_row, given_segment}
+use Rattle.dwc_unit.specs.GivenSegments.{given_file, given_row, given_segment}
 
 same-file : (t : LineTable) (g : GivenLines) (n : ℕ) → g.directories ≡ t.header.directories → g.files ≡ t.files → source_file (as_carried t) n ≡ given_file g n
 same-file t g zero ds fs = refl

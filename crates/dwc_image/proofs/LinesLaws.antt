@@ -7,7 +7,7 @@ use Rattle.dwc_base.specs.declared.records.Address.{Address}
 use Rattle.dwc_base.specs.declared.records.LineRow.{LineRow}
 use Rattle.dwc_dwarf.specs.LineRows.{LineStep, start as begin, row, end}
 use Rattle.dwc_native.specs.Functions.{Function}
-use Rattle.dwc_write.specs.GivenLines.{GivenLines}
+use Rattle.dwc_unit.specs.GivenLines.{GivenLines}
 use Rattle.dwc_image.specs.ImageSequences.{FitsStep, FitsFiles, AllRise, sequence_if, sequences_from, with_sequences}
 
 -- what holds of each thing seen holds of the one at a place

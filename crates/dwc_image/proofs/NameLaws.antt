@@ -69,8 +69,8 @@ pub record ArePlain (ds : List (List ℕ)) (fs : List LineFile) : Type 0 where
   pub files : All IsPlainFile fs
 
 -- those to version 4
-listed : {A : Type 0} (P : A → Type 0) (thing : Unread → Read (Option A)) → ((u : Unread) → Leaves (thing u) (length u.left)) → ((u : Unread) → Holds (λ x. IsSome P x.0) (thing u)) → (u : Unread) → Holds (λ xs. All P xs.0) (items_at thing u)
-listed {A} P thing takes each u = go (items_at thing u) refl
+each-item : {A : Type 0} (P : A → Type 0) (thing : Unread → Read (Option A)) → ((u : Unread) → Leaves (thing u) (length u.left)) → ((u : Unread) → Holds (λ x. IsSome P x.0) (thing u)) → (u : Unread) → Holds (λ xs. All P xs.0) (items_at thing u)
+each-item {A} P thing takes each u = go (items_at thing u) refl
   where
     go : (r : Read (List A)) → items_at thing u ≡ r → Holds (λ xs. All P xs.0) r
     go (Err flaw) is = record { of = tt }
@@ -90,7 +90,7 @@ names-plain s version address_size u = go (version == 5)
         → Holds {A = (List (List ℕ) × List LineFile) × Unread} (λ x. ArePlain (x.0).0 (x.0).1)
         ((elim late [ true ↦ directories_of_5_at s address_size u | false ↦ items_at directory_at u ]) >>= λ d. (elim late [ true ↦ files_of_5_at s address_size d.1 | false ↦ items_at file_at d.1 ]) >>= λ f. Ok ((d.0, f.0), f.1))
     go true = both (directories_of_5_at s address_size u) (files_of_5_at s address_size) (directories_of_5-plain s address_size u) (files_of_5-plain s address_size)
-    go false = both (items_at directory_at u) (items_at file_at) (listed IsPlain directory_at directory_at-leaves directory-plain u) (listed IsPlainFile file_at file_at-leaves file-plain)
+    go false = both (items_at directory_at u) (items_at file_at) (each-item IsPlain directory_at directory_at-leaves directory-plain u) (each-item IsPlainFile file_at file_at-leaves file-plain)
 
 -- the header that was read, if it was, has such names
 abbrev pub NamesOf : Result LineHeader Flaw → Type 0

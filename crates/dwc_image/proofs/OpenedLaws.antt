@@ -9,7 +9,7 @@ use Rattle.dwc_native.specs.Functions.{Function}
 use Rattle.dwc_tabs.specs.declared.step.LineStop.{LineStop}
 use Rattle.dwc_tabs.specs.declared.step.LineStop.TheVariants.{Start, End}
 use Rattle.dwc_tabs.specs.OpenTables.{OpenLines, step_from_one, stop_view, stopped, TakesRows}
-use Rattle.dwc_write.specs.GivenLines.{GivenLines}
+use Rattle.dwc_unit.specs.GivenLines.{GivenLines}
 use Rattle.dwc_image.specs.ImageSequences.{FitsFiles, RiseIf, sequence_if, sequences_from, with_sequences}
 use Rattle.dwc_image.specs.CarriedLines.{carried_step, carried_steps}
 use Rattle.dwc_image.specs.OpenedTables.{start_behind}

@@ -12,9 +12,9 @@ use Rattle.dwc_dwarf.specs.LineRows.{LineStep, start as begin, row, end, LineTab
 use Rattle.dwc_native.specs.Functions.{Function, function_at, recorded_sources}
 use Rattle.dwc_native.specs.Images.{is_carried_segment, IsImageOf}
 use Rattle.dwc_output.specs.Widest.{widest_image, most_rows}
-use Rattle.dwc_write.specs.SpelledLines.{read_segment}
-use Rattle.dwc_write.specs.GivenLines.{GivenLines, no_lines}
-use Rattle.dwc_write.specs.ReadBack.{given_segments}
+use Rattle.dwc_unit.specs.SpelledLines.{read_segment}
+use Rattle.dwc_unit.specs.GivenLines.{GivenLines, no_lines}
+use Rattle.dwc_unit.specs.GivenSegments.{given_segments}
 use Rattle.dwc_image.specs.ImageRows.{image_rows, image_from, image_of, image_with_rows, image_if, move_row, moved_to, IsOrdered, RowsRise}
 use Rattle.dwc_image.specs.ImageSequences.{RiseIf, AllRise, sequence_with_rows, sequence_in, sequence_at, sequence_if, sequences_from, with_sequences}
 use Rattle.dwc_image.specs.CarriedLines.{CarriesTable, carried_steps, with_directories, with_files}

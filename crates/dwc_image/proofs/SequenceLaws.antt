@@ -12,8 +12,8 @@ use Rattle.dwc_addr.specs.declared.function_map.FunctionMap.{FunctionMap}
 use Rattle.dwc_addr.specs.Runs.{recorded_view}
 use Rattle.dwc_addr.specs.Transforms.{function_view}
 use Rattle.dwc_addr.proofs.EntryLaws.{recorded-merged}
-use Rattle.dwc_write.specs.SpelledLines.{WrittenSequence}
-use Rattle.dwc_write.specs.GivenLines.{GivenLines, BegunSequence, with_begun, row_behind, with_end, last_offset, IsAtOrBehind, HasRow, CanAppend, CanEnd}
+use Rattle.dwc_unit.specs.SpelledLines.{WrittenSequence}
+use Rattle.dwc_unit.specs.GivenLines.{GivenLines, BegunSequence, with_begun, row_behind, with_end, last_offset, IsAtOrBehind, HasRow, CanAppend, CanEnd}
 use Rattle.dwc_image.specs.ImageRows.{RisesFrom, IsOrdered, move_row, is_repeated, placed_at, with_found, image_rows}
 use Rattle.dwc_image.specs.ImageSequences.{FitsFiles, FitsImage, FitsNext, begun_rows, IsBegun, HasGrown, with_sequences, sequence_with_rows, sequence_at}
 use Rattle.dwc_image.proofs.RowsLaws.{rows_from-each, rows_from-rises, rows_from-within}

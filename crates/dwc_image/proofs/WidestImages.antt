@@ -9,7 +9,7 @@ use Rattle.dwc_native.specs.Functions.{Function, Recorded, recorded_sources}
 use Rattle.dwc_dwarf.specs.LineRows.{LineTable, Row, Segment, named_row}
 use Rattle.dwc_native.specs.Images.{row_of_source, function_of_segment, start_of_segment, is_carried_segment}
 use Rattle.dwc_output.specs.Widest.{widest_image, most_rows}
-use Rattle.dwc_write.specs.SpelledLines.{WrittenSequence, read_segment}
+use Rattle.dwc_unit.specs.SpelledLines.{WrittenSequence, read_segment}
 use Rattle.dwc_image.specs.ImageRows.{found_at, is_repeated, placed_at, with_found, rows_from, moved_to, image_from, image_of, image_with_rows, image_if}
 use Rattle.dwc_image.proofs.ImageLaws.{found_row, row_of_source-found, image_from-empty}
 

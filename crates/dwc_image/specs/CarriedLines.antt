@@ -10,10 +10,10 @@ use Rattle.dwc_native.specs.Functions.{Function, AddressMap, functions_of}
 use Rattle.dwc_addr.specs.Transforms.{first_bad_map}
 use Rattle.dwc_native.specs.Images.{is_carried_segment, IsImageOf}
 use Rattle.dwc_output.specs.Widest.{widest_table}
-use Rattle.dwc_write.specs.WidestGiven.{widest_table_for}
-use Rattle.dwc_write.specs.SpelledLines.{FitsName}
-use Rattle.dwc_write.specs.ReadBack.{given_segments}
-use Rattle.dwc_write.specs.GivenLines.{GivenLines}
+use Rattle.dwc_unit.specs.WidestGiven.{widest_table_for}
+use Rattle.dwc_unit.specs.SpelledLines.{FitsName}
+use Rattle.dwc_unit.specs.GivenSegments.{given_segments}
+use Rattle.dwc_unit.specs.GivenLines.{GivenLines}
 
 -- ---- a table as one of version 4
 

@@ -6,8 +6,8 @@ use Rattle.dwc_base.specs.declared.records.Address.{Address}
 use Rattle.dwc_base.specs.declared.records.Address.TheVariants.{Constant, Symbol}
 use Rattle.dwc_dwarf.specs.LineRows.{LineStep, start as begin, row, end}
 use Rattle.dwc_native.specs.Functions.{Function, function_at, recorded_sources}
-use Rattle.dwc_write.specs.SpelledLines.{WrittenSequence}
-use Rattle.dwc_write.specs.GivenLines.{GivenLines, BegunSequence, last_offset, with_begun}
+use Rattle.dwc_unit.specs.SpelledLines.{WrittenSequence}
+use Rattle.dwc_unit.specs.GivenLines.{GivenLines, BegunSequence, last_offset, with_begun}
 use Rattle.dwc_image.specs.ImageRows.{RisesFrom, image_rows}
 
 -- a row's file is one of so many, and its line has 32 bits

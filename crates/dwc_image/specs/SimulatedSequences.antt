@@ -7,8 +7,8 @@ use Rattle.dwc_base.specs.declared.records.LineRow.{LineRow}
 use Rattle.dwc_native.specs.Functions.{Function, Recorded, recorded_sources}
 use Rattle.dwc_addr.specs.declared.function_map.FunctionMap.{FunctionMap}
 use Rattle.dwc_addr.specs.Transforms.{function_view}
-use Rattle.dwc_write.specs.SpelledLines.{WrittenSequence}
-use Rattle.dwc_write.specs.GivenLines.{GivenLines, CanAppend, with_row}
+use Rattle.dwc_unit.specs.SpelledLines.{WrittenSequence}
+use Rattle.dwc_unit.specs.GivenLines.{GivenLines, CanAppend, with_row}
 use Rattle.dwc_image.specs.ImageRows.{IsOrdered}
 
 -- ---- what is written
@@ -36,14 +36,14 @@ simulated_program address_size name fs = record { address_size = Some address_si
 
 -- ---- what is asked
 
--- A function can be listed: its recorded sources are ordered, and as offsets in the file have 32 bits.
-pub record CanList (code_offset : ℕ) (f : Function) : Type 0 where
+-- A function can be simulated: its recorded sources are ordered, and as offsets in the file have 32 bits.
+pub record CanSimulate (code_offset : ℕ) (f : Function) : Type 0 where
   pub order : IsOrdered f
   pub lines : All (λ e. code_offset + e.wasm < 2 ^ 32) (recorded_sources f)
 
 -- functions as they are given, each beside the offset that the contents of the code section begin at in its file
-abbrev pub listed_view : ℕ × Bor FunctionMap → ℕ × Function
-listed_view f = (f.0, function_view (f.1).now)
+abbrev pub simulated_view : ℕ × Bor FunctionMap → ℕ × Function
+simulated_view f = (f.0, function_view (f.1).now)
 
 -- ---- rows one by one
 

@@ -12,7 +12,8 @@ ghost use Rattle.dwc_image.specs.RunRows.{RisesBetween, IsCut, IsFirstBehind};
 
 use dwc_addr::{AddressMap, Sources};
 use dwc_base::{Address, LineRow};
-use dwc_write::{LineProgram, WriteError};
+use dwc_section::WriteError;
+use dwc_unit::LineProgram;
 use std::ops::Range;
 
 // How many items next to a place are looked at one by one before those behind them are searched: most searches end there.

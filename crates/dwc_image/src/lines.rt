@@ -2,7 +2,7 @@
 ghost use Rattle.std.specs.Prelude.{◌≡◌, ◌+◌, ◌<◌, ◌^◌, None, [], IsSome, OnOk, IfOk, IsOkUnless, length, map, All};
 ghost use Rattle.dwc_base.specs.Cursors.{slice_bytes};
 ghost use Rattle.dwc_tabs.specs.Headers.{file_view};
-ghost use Rattle.dwc_write.specs.SpelledLines.{FitsName};
+ghost use Rattle.dwc_unit.specs.SpelledLines.{FitsName};
 ghost use Rattle.dwc_image.specs.ImageRows.{IsOrdered};
 ghost use Rattle.dwc_image.specs.ImageSequences.{FitsStep, AllRise, sequences_from, with_sequences};
 ghost use Rattle.dwc_image.specs.CarriedLines.{carried_number, carried_row, carried_steps, FitsDirectories, IsRead, AreKept, CarriesTable, with_directories, with_files};
@@ -10,8 +10,9 @@ ghost use Rattle.dwc_image.specs.CarriedLines.{carried_number, carried_row, carr
 use crate::sequence::add_image;
 use dwc_addr::AddressTransform;
 use dwc_base::{Encoding, LineRow};
+use dwc_section::WriteError;
 use dwc_tabs::{LineFile, LineStep, LineTable};
-use dwc_write::{LineProgram, WriteError};
+use dwc_unit::LineProgram;
 use std::alloc::Global;
 
 /// The line program that carries a line table of any version for the functions of a module: the table's directories and files

@@ -1,6 +1,6 @@
 //! The line program that carries a line table that is read along with it.
 ghost use Rattle.std.specs.Prelude.{◌≡◌, None, Some, [], true, IsSome, IfSome, IfOk, All, length};
-ghost use Rattle.dwc_write.specs.GivenLines.{no_lines};
+ghost use Rattle.dwc_unit.specs.GivenLines.{no_lines};
 ghost use Rattle.dwc_image.specs.ImageRows.{IsOrdered};
 ghost use Rattle.dwc_image.specs.ImageSequences.{sequences_from, with_sequences};
 ghost use Rattle.dwc_image.specs.CarriedLines.{AreKept, CarriesTable, carried_steps, with_directories, with_files};
@@ -10,8 +10,9 @@ use crate::lines::{add_directories, add_files};
 use crate::sequence::add_image;
 use dwc_addr::AddressTransform;
 use dwc_base::{Address, Encoding};
+use dwc_section::WriteError;
 use dwc_tabs::{LineStop, OpenTable};
-use dwc_write::{LineProgram, WriteError};
+use dwc_unit::LineProgram;
 use std::alloc::Global;
 
 /// What `carried_lines` makes of a table, where all of it can be read and all its files are there. None where not, and for want of

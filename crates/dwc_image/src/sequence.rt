@@ -6,7 +6,8 @@ ghost use Rattle.dwc_image.specs.ImageSequences.{FitsFiles, RiseIf, with_sequenc
 use crate::image::add_rows;
 use dwc_addr::AddressTransform;
 use dwc_base::{Address, LineRow};
-use dwc_write::{LineProgram, WriteError};
+use dwc_section::WriteError;
+use dwc_unit::LineProgram;
 
 /// Adds the image of a segment of a line table by its start and its rows, where it has one; rows without a start are of no
 /// segment.

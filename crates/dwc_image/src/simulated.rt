@@ -4,14 +4,15 @@ ghost use Rattle.std.specs.List.{AllZip};
 ghost use Rattle.dwc_output.specs.SimulatedLines.{IsSimulated};
 ghost use Rattle.dwc_addr.specs.Runs.{recorded_view};
 ghost use Rattle.dwc_addr.specs.Transforms.{function_view};
-ghost use Rattle.dwc_write.specs.SpelledLines.{FitsName};
-ghost use Rattle.dwc_write.specs.ReadBack.{given_segments};
+ghost use Rattle.dwc_unit.specs.SpelledLines.{FitsName};
+ghost use Rattle.dwc_unit.specs.GivenSegments.{given_segments};
 ghost use Rattle.dwc_image.specs.ImageSequences.{with_sequences};
-ghost use Rattle.dwc_image.specs.SimulatedSequences.{simulated_line, line_of_recorded, lines_of_recorded, simulated_sequence, simulated_program, CanList, listed_view, with_rows, CanAppendEach};
+ghost use Rattle.dwc_image.specs.SimulatedSequences.{simulated_line, line_of_recorded, lines_of_recorded, simulated_sequence, simulated_program, CanSimulate, simulated_view, with_rows, CanAppendEach};
 
 use dwc_addr::{AddressMap, FunctionMap, Sources};
 use dwc_base::{Address, Encoding, LineRow};
-use dwc_write::{LineProgram, WriteError};
+use dwc_section::WriteError;
+use dwc_unit::LineProgram;
 use std::alloc::Global;
 
 // A row of the first file.
@@ -92,7 +93,7 @@ pub fn add_simulated(
     requires sized { IsSome program.old.address_size }
     requires ended { program.old.begun ≡ None }
     requires some { 0 < length program.old.files }
-    requires function { CanList code_offset (function_view function.now) }
+    requires function { CanSimulate code_offset (function_view function.now) }
     ensures added { OnOk result (program.new ≡ with_sequences (simulated_sequence code_offset (function_view function.now) ∷ []) program.old) }
     ensures memory { IsOkUnless result WriteError.OutOfMemory }
 {
@@ -113,8 +114,8 @@ fn add_all(
     requires sized { IsSome program.old.address_size }
     requires ended { program.old.begun ≡ None }
     requires some { 0 < length program.old.files }
-    requires functions { All (λ f. CanList f.0 (function_view (f.1).now)) functions.now }
-    ensures added { OnOk result (program.new ≡ with_sequences (map (λ f. simulated_sequence f.0 f.1) (map listed_view functions.now)) program.old) }
+    requires functions { All (λ f. CanSimulate f.0 (function_view (f.1).now)) functions.now }
+    ensures added { OnOk result (program.new ≡ with_sequences (map (λ f. simulated_sequence f.0 f.1) (map simulated_view functions.now)) program.old) }
     ensures memory { IsOkUnless result WriteError.OutOfMemory }
 {
     for function in functions {
@@ -135,9 +136,9 @@ pub fn simulated_lines(
     functions: &[(u64, &FunctionMap<'_>)],
 ) -> Result<LineProgram, WriteError>
     requires name { FitsName name.now }
-    requires functions { All (λ f. CanList f.0 f.1) (map listed_view functions.now) }
-    ensures lines { IfOk result (λ p. p ≡ simulated_program encoding.address_size name.now (map listed_view functions.now)) }
-    ensures segments { IfOk result (λ p. AllZip (λ f segment. IsSimulated name.now f.0 f.1 segment) (map listed_view functions.now) (given_segments p)) }
+    requires functions { All (λ f. CanSimulate f.0 f.1) (map simulated_view functions.now) }
+    ensures lines { IfOk result (λ p. p ≡ simulated_program encoding.address_size name.now (map simulated_view functions.now)) }
+    ensures segments { IfOk result (λ p. AllZip (λ f segment. IsSimulated name.now f.0 f.1 segment) (map simulated_view functions.now) (given_segments p)) }
     ensures memory { IsOkUnless result WriteError.OutOfMemory }
 {
     let mut program = LineProgram::new(alloc, encoding)?;

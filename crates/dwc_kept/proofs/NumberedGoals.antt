@@ -6,11 +6,11 @@ use Rattle.std.specs.List.{list_any, AllZip}
 use Rattle.std.proofs.lemmas.Bool.{true≢false, eqb-true, eq-eqb, lt-ltb, and_parts}
 use Rattle.std.proofs.lemmas.Iterator.Adapters.{position_from-zero}
 use Rattle.dwc_dwarf.specs.Trees.{place_among}
-use Rattle.dwc_rules.specs.Drafts.{Role, itself, pointer_to_wrapper, reference_to_target, pointer_to_target, Goal, made_of, own_entry, Draft}
+use Rattle.dwc_rules.specs.Drafts.{Role, itself, pointer_to_wrapper, reference_to_target, pointer_to_target, Goal, made_of, synthetic_entry, Draft}
 use Rattle.dwc_rules.specs.DraftForests.{role_number, is_made_of, place_of_goal}
 use Rattle.dwc_rules.specs.Carried.{Module}
 use Rattle.dwc_native.specs.Compiled.{Memory, no_memory, defined, imported}
-use Rattle.dwc_rules.specs.OwnUnits.{own_unit, place_of_context_pointer, place_of_wasm_pointer}
+use Rattle.dwc_rules.specs.SyntheticUnit.{synthetic_unit, place_of_context_pointer, place_of_wasm_pointer}
 use Rattle.dwc_rules.specs.Kept.{Placed}
 use Rattle.dwc_rules.specs.KeptModules.{kept_in}
 use Rattle.dwc_rules.specs.Wrappers.{is_wrapped}
@@ -130,19 +130,19 @@ put-same at numbers others places goal same put = (put.0 ∙ ap is_some same, sy
 put-nowhere : (at : ℕ → ℕ → Option (ℕ × ℕ)) (numbers places : Goal → Option (ℕ × ℕ)) (goal : Goal) → numbers goal ≡ None → places goal ≡ None → IsPut at numbers places goal
 put-nowhere at numbers places goal no_number no_place = (ap is_some no_place ∙ sym (ap is_some no_number), ap (option_and_then (λ p. at p.0 p.1)) no_number ∙ sym no_place)
 
--- no entry of the module's own unit is made of one
-pub own-apart : (offset : ℕ) (role : Role) (set_memory : List ℕ) (memory : Memory) → position (is_made_of offset role) (own_unit set_memory memory) ≡ None
-unfolding own_unit
-own-apart offset role set_memory (defined o) = refl
-own-apart offset role set_memory no_memory = refl
-own-apart offset role set_memory (imported definition base) = refl
+-- no entry of the module's synthetic unit is made of one
+pub synthetic-apart : (offset : ℕ) (role : Role) (set_memory : List ℕ) (memory : Memory) → position (is_made_of offset role) (synthetic_unit set_memory memory) ≡ None
+unfolding synthetic_unit
+synthetic-apart offset role set_memory (defined o) = refl
+synthetic-apart offset role set_memory no_memory = refl
+synthetic-apart offset role set_memory (imported definition base) = refl
 
--- the places of the own unit that others refer to are there
-own-pointers : (set_memory : List ℕ) (memory : Memory) → (place_of_context_pointer memory < length (own_unit set_memory memory)) × (place_of_wasm_pointer memory < length (own_unit set_memory memory))
-unfolding own_unit
-own-pointers set_memory (defined o) = (omega arith, omega arith)
-own-pointers set_memory no_memory = (omega arith, omega arith)
-own-pointers set_memory (imported definition base) = (omega arith, omega arith)
+-- the places of the synthetic unit that others refer to are there
+synthetic-pointers : (set_memory : List ℕ) (memory : Memory) → (place_of_context_pointer memory < length (synthetic_unit set_memory memory)) × (place_of_wasm_pointer memory < length (synthetic_unit set_memory memory))
+unfolding synthetic_unit
+synthetic-pointers set_memory (defined o) = (omega arith, omega arith)
+synthetic-pointers set_memory no_memory = (omega arith, omega arith)
+synthetic-pointers set_memory (imported definition base) = (omega arith, omega arith)
 
 module _ (c : Module) (m : KeptModule) (is : IsKeptModule c.functions c.sections m) (big_endian : Bool) (first : ℕ) (at : ℕ → ℕ → Option (ℕ × ℕ)) (goals : ℕ → Goal → Option (ℕ × ℕ)) where
   abbrev drafts : ReadUnit → List Draft
@@ -157,14 +157,14 @@ module _ (c : Module) (m : KeptModule) (is : IsKeptModule c.functions c.sections
 
   -- what is made of entries is looked for in the carried units
   place-carried : (offset : ℕ) (role : Role) → places (made_of offset role) ≡ place_among (is_made_of offset role) (suc first) (carried_drafts (expressions_of c) big_endian (kept_of c))
-  place-carried offset role = ap (λ (o : Option ℕ). option_or (option_map (λ place. (first, place)) o) (place_among (is_made_of offset role) (suc first) (carried_drafts (expressions_of c) big_endian (kept_of c)))) (own-apart offset role c.told.names.set_memory c.told.memory)
+  place-carried offset role = ap (λ (o : Option ℕ). option_or (option_map (λ place. (first, place)) o) (place_among (is_made_of offset role) (suc first) (carried_drafts (expressions_of c) big_endian (kept_of c)))) (synthetic-apart offset role c.told.names.set_memory c.told.memory)
 
   -- Each carried unit has numbers, and an entry itself the one that its offset has among the kept ones.
   pub record AreNumberedUnits : Type 0 where
     pub units : (front more : List ReadUnit) (r : ReadUnit) → carried m ≡ front ++ r ∷ more → AreAtNumbers at (goals (suc first + length front)) (suc first + length front) (drafts r)
     pub kept : (number offset : ℕ) → goals number (made_of offset itself) ≡ place_kept offset
-    pub own : (number place : ℕ) → goals number (own_entry place) ≡ Some (first, place)
-    pub own_there : (place : ℕ) → place < length (own_unit c.told.names.set_memory c.told.memory) → at first place ≡ Some (first, place)
+    pub synthetic : (number place : ℕ) → goals number (synthetic_entry place) ≡ Some (first, place)
+    pub synthetic_there : (place : ℕ) → place < length (synthetic_unit c.told.names.set_memory c.told.memory) → at first place ≡ Some (first, place)
 
   module _ (numbered : AreNumberedUnits) where
     -- what is made of an entry in a role in a carried unit has a number there that leads to its place
@@ -217,22 +217,22 @@ module _ (c : Module) (m : KeptModule) (is : IsKeptModule c.functions c.sections
         (many-any (is_made_of e.entry.offset role) (drafts r)
         (subst (λ n. 1 ≤ n) (sym (made-many (expressions_of c u) (source_of (kept_of c) u) big_endian e.entry.offset role (kept_in (kept_of c) u))) (many-in (is_source e.entry.offset role) (kept_in (kept_of c) u) e i source)))
 
-    -- an entry of the module's own unit
-    own-put : (number place : ℕ) → place < length (own_unit c.told.names.set_memory c.told.memory) → IsPut at (goals number) places (own_entry place)
-    own-put number place within =
-        put-there at (goals number) places (own_entry place) (first, place) (first, place) (numbered.own number place)
-        (ap (λ b. cond {A = Option (ℕ × ℕ)} b (Some (first, place)) None) (lt-ltb place (length (own_unit c.told.names.set_memory c.told.memory)) within))
-        (numbered.own_there place within)
+    -- an entry of the module's synthetic unit
+    synthetic-put : (number place : ℕ) → place < length (synthetic_unit c.told.names.set_memory c.told.memory) → IsPut at (goals number) places (synthetic_entry place)
+    synthetic-put number place within =
+        put-there at (goals number) places (synthetic_entry place) (first, place) (first, place) (numbered.synthetic number place)
+        (ap (λ b. cond {A = Option (ℕ × ℕ)} b (Some (first, place)) None) (lt-ltb place (length (synthetic_unit c.told.names.set_memory c.told.memory)) within))
+        (numbered.synthetic_there place within)
 
     -- The numbers of all goals of a carried unit lead to their places.
     pub goals-put : (front more : List ReadUnit) (r : ReadUnit) → carried m ≡ front ++ r ∷ more
         → GoalsHave (IsPut at (goals (suc first + length front)) places) c.told.memory (kept_in (kept_of c) (unit_read c.sections r.unit.header))
     goals-put front more r units_are =
-        let own = own-pointers c.told.names.set_memory c.told.memory in
+        let synthetic = synthetic-pointers c.told.names.set_memory c.told.memory in
         let unit = suc first + length front in
         record {
           plain = itself-put unit;
           wrapped = wrapped-put front more r units_are;
-          context = own-put unit (place_of_context_pointer c.told.memory) own.0;
-          address = own-put unit (place_of_wasm_pointer c.told.memory) own.1;
+          context = synthetic-put unit (place_of_context_pointer c.told.memory) synthetic.0;
+          address = synthetic-put unit (place_of_wasm_pointer c.told.memory) synthetic.1;
         }

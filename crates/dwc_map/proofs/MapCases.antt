@@ -4,7 +4,7 @@ use Rattle.std.specs.Prelude.{Bool, Option, codes, is_some, map}
 use Rattle.std.specs.FinMap as finite
 use Rattle.dwc_native.specs.CallFrames.{FrameDescription, def_cfa, remember_state}
 use Rattle.dwc_native.specs.Functions.{AddressMap}
-use Rattle.dwc_clif.specs.declared.architecture.Architecture.TheVariants.{Aarch64, Pulley}
+use Rattle.dwc_isa.specs.declared.architecture.Architecture.TheVariants.{Aarch64, Pulley}
 use Rattle.dwc_map.specs.MapFile.{MapFile, Target, map_of_bytes}
 use Rattle.dwc_map.proofs.OnLiterals.{map_on_literals}
 

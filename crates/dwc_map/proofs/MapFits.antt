@@ -14,7 +14,7 @@ use Rattle.dwc_map.specs.MapFile.{Target, MapFile, architecture_of, pointer_byte
 use Rattle.dwc_map.specs.MapValues.{◌>>=◌, only_if, number_below, value_or, with_default, required, list_of, pair_of, text_of, truth_of, members_of, u8_of, u32_of, i8_of, nullable}
 use Rattle.dwc_map.specs.MapFrames.{instruction_of, cie_of, cie_in}
 use Rattle.dwc_map.specs.MapViews.{map_file_view}
-use Rattle.dwc_addr.specs.Compilations.{AreNames}
+use Rattle.dwc_isa.specs.ToldModules.{AreNames}
 use Rattle.dwc_map.proofs.MapKinds.{pair_of_parts}
 use Rattle.std.proofs.lemmas.Bool.{true≢false}
 use Rattle.std.proofs.lemmas.List.Elements.{All-cons, All-nil}

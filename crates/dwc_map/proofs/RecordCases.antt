@@ -4,8 +4,8 @@ use Rattle.std.specs.Prelude.{codes, Option}
 use Rattle.std.specs.FinMap as finite
 use Rattle.serde_json.specs.Read.{read}
 use Rattle.dwc_native.specs.Compiled.{in_register, at_frame_offset, Memory, no_memory, defined, imported}
-use Rattle.dwc_clif.specs.Registers.{Registers}
-use Rattle.dwc_clif.specs.ValueLabels.{LabelledRanges}
+use Rattle.dwc_isa.specs.Registers.{Registers}
+use Rattle.dwc_isa.specs.ValueLabels.{LabelledRanges}
 use Rattle.dwc_map.specs.MapFile.{Target, MapFunction, MapModule, target_of, map_function_of, map_module_of}
 use Rattle.dwc_map.specs.MapValues.{◌>>=◌}
 use Rattle.dwc_map.proofs.OnLiterals.{map_on_literals}

@@ -11,8 +11,8 @@ use Rattle.std.proofs.Math.Bool.{and-false}
 use Rattle.serde_json.specs.Data.{Data, Items, item}
 use Rattle.serde_json.specs.View.{view, items_view}
 use Rattle.serde_json.specs.declared.value.Value.{Value}
-use Rattle.dwc_clif.specs.declared.reg.Reg.{Reg}
-use Rattle.dwc_clif.specs.Registers.{numbers}
+use Rattle.dwc_isa.specs.declared.reg.Reg.{Reg}
+use Rattle.dwc_isa.specs.Registers.{numbers}
 use Rattle.dwc_map.specs.MapValues.{◌>>=◌, only_if, u32_of, pair_of, all_items, has_key, have_distinct_keys, table_by, table_in}
 
 module _ {X : Type 0} where

@@ -9,7 +9,7 @@ use Rattle.serde_json.specs.Data.{Data, object, Members, no_members, put}
 use Rattle.serde_json.specs.Find.{get_member}
 use Rattle.serde_json.proofs.Views.{get_member-put, get_member-put_other}
 use Rattle.dwc_native.specs.CallFrames.{FrameDescription}
-use Rattle.dwc_clif.specs.ValueLabels.{LabelledRanges}
+use Rattle.dwc_isa.specs.ValueLabels.{LabelledRanges}
 use Rattle.dwc_map.specs.ByTokens.{AreSameFields, Puts, Tells, TellsFunction}
 use Rattle.dwc_map.specs.MapFile.{MapFunction, entries_of, function_by, function_in, labels_of, map_function_of}
 use Rattle.dwc_map.specs.MapFrames.{frame_in, frame_of}

@@ -9,7 +9,7 @@ use Rattle.serde_json.specs.Find.{get_member}
 use Rattle.serde_json.specs.Read.{of_json, of_items, of_members, converted, number_of}
 use Rattle.dwc_native.specs.CallFrames.{FrameDescription}
 use Rattle.dwc_native.specs.Compiled.{Place}
-use Rattle.dwc_clif.specs.ValueLabels.{LabelledRanges}
+use Rattle.dwc_isa.specs.ValueLabels.{LabelledRanges}
 use Rattle.dwc_map.specs.MapFile.{entries_of, labels_of, place_of}
 use Rattle.dwc_map.specs.MapFrames.{frame_in, frame_of}
 use Rattle.dwc_map.specs.MapValues.{all_items, pair_of, required, table_by, u32_of, with_default}

@@ -11,13 +11,13 @@ use Rattle.dwc_native.specs.CallFrames.{CommonEntry, FrameDescription, is_sound_
 use Rattle.dwc_native.specs.Functions.{AddressMap}
 use Rattle.dwc_native.specs.Compiled as told
 use Rattle.dwc_native.specs.Compiled.{Place, in_register, at_frame_offset, LabelRange, Memory, no_memory}
-use Rattle.dwc_clif.specs.declared.architecture.Architecture.{Architecture}
-use Rattle.dwc_clif.specs.declared.architecture.Architecture.TheVariants.{X86_64, Aarch64, S390x, Riscv64, Pulley}
-use Rattle.dwc_clif.specs.Registers.{Registers}
-use Rattle.dwc_clif.specs.ValueLabels.{LabelledRanges}
+use Rattle.dwc_isa.specs.declared.architecture.Architecture.{Architecture}
+use Rattle.dwc_isa.specs.declared.architecture.Architecture.TheVariants.{X86_64, Aarch64, S390x, Riscv64, Pulley}
+use Rattle.dwc_isa.specs.Registers.{Registers}
+use Rattle.dwc_isa.specs.ValueLabels.{LabelledRanges}
 use Rattle.dwc_map.specs.MapValues.{◌>>=◌, only_if, number_below, u16_of, u32_of, i64_of, nullable, source_of, truth_of, text_of, list_of, pair_of, four_of, table_of, members_of, required, with_default, named_in}
 use Rattle.dwc_map.specs.MapFrames.{cie_in, frame_in}
-use Rattle.dwc_addr.specs.Compilations.{AreNames}
+use Rattle.dwc_isa.specs.ToldModules.{AreNames}
 
 -- the target that the code was compiled for, with DWARF's numbers of its registers, and what its frames share
 pub record Target : Type 0 where

@@ -7,14 +7,15 @@ use Rattle.serde_json.specs.View.{view, items_view}
 use Rattle.dwc_base.specs.declared.records.SymbolId.{SymbolId}
 use Rattle.dwc_native.specs.CallFrames.{CommonEntry, FrameDescription}
 use Rattle.dwc_native.specs.Compiled.{LabelRange, LinkageNames}
-use Rattle.dwc_clif.specs.declared.metadata.CompiledFunctionMetadata.{CompiledFunctionMetadata}
-use Rattle.dwc_clif.specs.declared.value_label.ValueLabel.{ValueLabel}
-use Rattle.dwc_clif.specs.declared.value_label.ValueLocRange.{ValueLocRange}
-use Rattle.dwc_clif.specs.ValueLabels.{LabelledRanges, range_view}
-use Rattle.dwc_clif.specs.AddressMaps.{address_map_view}
-use Rattle.dwc_clif.specs.CallFrames.{cie_view, description_of_metadata}
-use Rattle.dwc_clif.specs.Registers.{registers_of}
-use Rattle.dwc_expr.specs.Frames.{memory_view}
+use Rattle.dwc_compiled.specs.declared.metadata.CompiledFunctionMetadata.{CompiledFunctionMetadata}
+use Rattle.dwc_isa.specs.declared.value_label.ValueLabel.{ValueLabel}
+use Rattle.dwc_isa.specs.declared.value_label.ValueLocRange.{ValueLocRange}
+use Rattle.dwc_isa.specs.ValueLabels.{LabelledRanges, range_view}
+use Rattle.dwc_compiled.specs.AddressMaps.{address_map_view}
+use Rattle.dwc_isa.specs.CallFrames.{cie_view}
+use Rattle.dwc_compiled.specs.FunctionFrames.{description_of_metadata}
+use Rattle.dwc_isa.specs.Registers.{registers_of}
+use Rattle.dwc_isa.specs.ToldModules.{memory_view}
 use Rattle.dwc_map.specs.MapFile as value
 use Rattle.dwc_map.specs.MapFrames as frames
 use Rattle.dwc_map.specs.MapValues.{◌>>=◌, u32_of, nullable, all_items, pair_of, value_or}

@@ -3,8 +3,8 @@
 //! order; any other, and what is no map, is left to the plain way.
 ghost use Rattle.std.specs.Prelude.{◌≡◌, ◌<◌, ◌-◌, ◌^◌, ℕ, map, codes, length, option_map, Some, IfOk, OnOk};
 ghost use Rattle.serde_json.specs.View.{members_view};
-ghost use Rattle.dwc_clif.specs.Gaps.{entry_view};
-ghost use Rattle.dwc_clif.specs.CallFrames.{description_view};
+ghost use Rattle.dwc_compiled.specs.Gaps.{entry_view};
+ghost use Rattle.dwc_isa.specs.CallFrames.{description_view};
 ghost use Rattle.dwc_map.specs.ByTokens.{IsNumber, IsSource, Puts, Tells, TellsFunction, TellsItems, TellsMembers};
 ghost use Rattle.dwc_map.specs.MapFile.{entries_of, functions_of, map_function_of, map_in, map_in_bytes, map_module_of, modules_of};
 ghost use Rattle.dwc_map.specs.MapValues.{pair_of, source_of, u32_of};
@@ -19,10 +19,8 @@ use crate::stop::Stop;
 use crate::token_parts::{begin_list, begin_object, end_list, number_in, read_number};
 use crate::tokens::{put_value, read_value};
 use dwc_base::{FilePos, SymbolId};
-use dwc_clif::{
-    CfaUnwindInfo, CompiledFunctionMetadata, InstructionAddressMap, InstructionMaps,
-    ValueLabelsRanges,
-};
+use dwc_compiled::{CompiledFunctionMetadata, InstructionAddressMap, InstructionMaps};
+use dwc_isa::{CfaUnwindInfo, ValueLabelsRanges};
 use json::{Reader, Scratch, Token};
 use serde_json::{Map, Value};
 use std::alloc::Global;

@@ -3,7 +3,7 @@ ghost use Rattle.std.specs.Prelude.{◌≡◌, ◌≢◌, ℕ, ℤ, nat_abs, map
 ghost use Rattle.std.specs.List.{list_all};
 ghost use Rattle.serde_json.specs.View.{view, items_view};
 ghost use Rattle.dwc_native.specs.CallFrames.{FrameInstruction, has_factored_offset, is_sound};
-ghost use Rattle.dwc_clif.specs.CallFrames.{instruction_view, cie_view, description_view};
+ghost use Rattle.dwc_isa.specs.CallFrames.{instruction_view, cie_view, description_view};
 ghost use Rattle.dwc_map.specs.MapValues.{u32_of, nullable, all_items, pair_of, value_or, named_in};
 ghost use Rattle.dwc_map.specs.MapFrames.{alone, of_register, of_offset, of_both, instruction_kinds, instruction_of, frame_of, cie_of};
 ghost use Rattle.dwc_map.specs.MapViews.{cie_with, frame_with};
@@ -12,7 +12,7 @@ use crate::json_fields::{
     byte_number, items, member, members, pair, plain_text, short_number, signed_byte,
     signed_offset, whole_number,
 };
-use dwc_clif::{CfaUnwindInfo, Cie, FrameOp};
+use dwc_isa::{CfaUnwindInfo, Cie, FrameOp};
 use serde_json::Value;
 use std::alloc::{AllocError, Global};
 

@@ -1,7 +1,7 @@
 //! How the frames of functions change, by the tokens of a map file.
 ghost use Rattle.std.specs.Prelude.{◌≡◌, ◌<◌, ◌-◌, map, length, option_map, option_and_then, Some, IfOk, OnOk};
 ghost use Rattle.serde_json.specs.View.{items_view};
-ghost use Rattle.dwc_clif.specs.CallFrames.{instruction_view, description_view};
+ghost use Rattle.dwc_isa.specs.CallFrames.{instruction_view, description_view};
 ghost use Rattle.dwc_map.specs.ByTokens.{Tells, TellsDescription, TellsItems};
 ghost use Rattle.dwc_map.specs.MapFrames.{frame_of, instruction_kinds, instruction_of};
 ghost use Rattle.dwc_map.specs.MapValues.{list_of, named_in, nullable, pair_of, u32_of};
@@ -9,7 +9,7 @@ ghost use Rattle.dwc_map.specs.MapValues.{list_of, named_in, nullable, pair_of, 
 use crate::frames::named_instruction;
 use crate::stop::Stop;
 use crate::token_parts::{begin_list, end_list, end_object, read_number, read_whole, take_name};
-use dwc_clif::{CfaUnwindInfo, FrameOp};
+use dwc_isa::{CfaUnwindInfo, FrameOp};
 use json::{Reader, Token};
 use serde_json::Value;
 use std::alloc::Global;

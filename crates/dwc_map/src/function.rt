@@ -2,9 +2,9 @@
 ghost use Rattle.std.specs.Prelude.{ℕ, List, Option, ◌≡◌, map, option_map, option_and_then, IfOk, IfSome};
 ghost use Rattle.serde_json.specs.View.{view, items_view, members_view};
 ghost use Rattle.dwc_native.specs.CallFrames.{FrameDescription};
-ghost use Rattle.dwc_clif.specs.Gaps.{entry_view};
-ghost use Rattle.dwc_clif.specs.CallFrames.{description_view};
-ghost use Rattle.dwc_clif.specs.ValueLabels.{LabelledRanges};
+ghost use Rattle.dwc_compiled.specs.Gaps.{entry_view};
+ghost use Rattle.dwc_isa.specs.CallFrames.{description_view};
+ghost use Rattle.dwc_isa.specs.ValueLabels.{LabelledRanges};
 ghost use Rattle.dwc_map.specs.MapFile.{function_by, function_in, map_function_of};
 ghost use Rattle.dwc_map.specs.MapValues.{u32_of, source_of, pair_of, all_items};
 ghost use Rattle.dwc_map.specs.MapViews.{function_told, function_with, function_view, told_sources, mapped_sources, HaveOneSource, IsPlace};
@@ -15,10 +15,10 @@ use crate::json_fields::{
 };
 use crate::labels::read_labels;
 use dwc_base::SymbolId;
-use dwc_clif::{
-    CfaUnwindInfo, CompiledFunctionMetadata, FunctionAddressMap, InstructionAddressMap,
-    InstructionMaps, ValueLabelsRanges,
+use dwc_compiled::{
+    CompiledFunctionMetadata, FunctionAddressMap, InstructionAddressMap, InstructionMaps,
 };
+use dwc_isa::{CfaUnwindInfo, ValueLabelsRanges};
 use serde_json::{Map, Value};
 use std::alloc::{AllocError, Global};
 

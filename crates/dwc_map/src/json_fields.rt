@@ -8,7 +8,7 @@ ghost use Rattle.dwc_map.specs.MapViews.{IsPlace};
 ghost use Rattle.dwc_map.specs.MapValues.{u32_of, u16_of, u8_of, i8_of, i32_of, i64_of, source_of, nullable, text_of, members_of, pair_of, four_of};
 
 use dwc_base::{FilePos, SymbolId};
-use dwc_clif::Architecture;
+use dwc_isa::Architecture;
 use serde_json::{Map, Value};
 
 /// A whole number below 2^32.

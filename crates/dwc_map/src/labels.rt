@@ -2,13 +2,13 @@
 ghost use Rattle.std.specs.Prelude.{◌≡◌, map, option_map, IfOk};
 ghost use Rattle.std.specs.FinMap as finite;
 ghost use Rattle.serde_json.specs.View.{view, items_view};
-ghost use Rattle.dwc_clif.specs.ValueLabels.{place_view, range_view};
+ghost use Rattle.dwc_isa.specs.ValueLabels.{place_view, range_view};
 ghost use Rattle.dwc_map.specs.MapFile.{place_of, label_range_of, labels_of};
 ghost use Rattle.dwc_map.specs.MapValues.{u32_of, pair_of, all_items, list_of, table_in, value_or};
 ghost use Rattle.dwc_map.specs.MapViews.{label_view};
 
 use crate::json_fields::{four, items, pair, plain_text, signed_number, whole_number};
-use dwc_clif::{LabelValueLoc, Reg, ValueLabel, ValueLabelsRanges, ValueLocRange};
+use dwc_isa::{LabelValueLoc, Reg, ValueLabel, ValueLabelsRanges, ValueLocRange};
 use serde_json::Value;
 use std::alloc::{AllocError, Global};
 

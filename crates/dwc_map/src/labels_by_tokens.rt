@@ -1,6 +1,6 @@
 //! Where the values of a function lie, by the tokens of a map file.
 ghost use Rattle.std.specs.Prelude.{◌≡◌, ◌<◌, ◌-◌, ℕ, map, length, IfOk, OnOk};
-ghost use Rattle.dwc_clif.specs.ValueLabels.{place_view, range_view};
+ghost use Rattle.dwc_isa.specs.ValueLabels.{place_view, range_view};
 ghost use Rattle.dwc_map.specs.ByTokens.{Tells, TellsItems, TellsPlace, TellsTable};
 ghost use Rattle.dwc_map.specs.MapFile.{label_range_of, labels_of};
 ghost use Rattle.dwc_map.specs.MapValues.{list_of, pair_of, u32_of};
@@ -8,7 +8,7 @@ ghost use Rattle.dwc_map.specs.MapViews.{label_view};
 
 use crate::stop::Stop;
 use crate::token_parts::{begin_list, end_list, read_number, read_signed};
-use dwc_clif::{LabelValueLoc, Reg, ValueLabel, ValueLabelsRanges, ValueLocRange};
+use dwc_isa::{LabelValueLoc, Reg, ValueLabel, ValueLabelsRanges, ValueLocRange};
 use json::{Reader, Token};
 use std::alloc::Global;
 

@@ -13,9 +13,9 @@ use crate::json_fields::{
 use crate::module::read_modules;
 use crate::registers::read_registers;
 use crate::stop::Stop;
-use dwc_addr::ModuleMemoryOffset;
 use dwc_base::{ModuleTranslation, SymbolId};
-use dwc_clif::{Architecture, Cie, CompiledFunctionMetadata, Reg};
+use dwc_compiled::CompiledFunctionMetadata;
+use dwc_isa::{Architecture, Cie, ModuleMemoryOffset, Reg};
 use serde_json::{Map, Value};
 use std::alloc::{AllocError, Global};
 

@@ -2,12 +2,12 @@
 ghost use Rattle.std.specs.Prelude.{◌≡◌, option_map};
 ghost use Rattle.serde_json.specs.View.{view};
 ghost use Rattle.dwc_native.specs.Compiled.{no_memory};
-ghost use Rattle.dwc_expr.specs.Frames.{memory_view};
+ghost use Rattle.dwc_isa.specs.ToldModules.{memory_view};
 ghost use Rattle.dwc_map.specs.MapFile.{imported_of, memory_of};
 ghost use Rattle.dwc_map.specs.MapValues.{value_or};
 
 use crate::json_fields::{member, members, pair, whole_number};
-use dwc_addr::ModuleMemoryOffset;
+use dwc_isa::ModuleMemoryOffset;
 use serde_json::Value;
 
 /// Where a module's memory is found; it has none where nothing is told.

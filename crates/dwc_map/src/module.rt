@@ -10,7 +10,7 @@ use crate::json_fields::{items, member, members, plain_text};
 use crate::map_file::MapModule;
 use crate::memory::read_memory;
 use dwc_base::SymbolId;
-use dwc_clif::CompiledFunctionMetadata;
+use dwc_compiled::CompiledFunctionMetadata;
 use serde_json::{Map, Value};
 use std::alloc::{AllocError, Global};
 

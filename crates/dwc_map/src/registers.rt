@@ -2,12 +2,12 @@
 ghost use Rattle.std.specs.Prelude.{◌≡◌, map, option_map, IfOk};
 ghost use Rattle.std.specs.FinMap as finite;
 ghost use Rattle.serde_json.specs.View.{view, items_view};
-ghost use Rattle.dwc_clif.specs.Registers.{numbers, registers_of};
+ghost use Rattle.dwc_isa.specs.Registers.{numbers, registers_of};
 ghost use Rattle.dwc_map.specs.MapFile.{register_numbers_of};
 ghost use Rattle.dwc_map.specs.MapValues.{u32_of, u16_of, pair_of, all_items, have_distinct_keys, value_or};
 
 use crate::json_fields::{items, pair, short_number, whole_number};
-use dwc_clif::Reg;
+use dwc_isa::Reg;
 use serde_json::Value;
 use std::alloc::{AllocError, Global};
 use std::collections::BTreeSet;

@@ -4,7 +4,7 @@ use json::Invalid;
 use std::alloc::{AllocError, AllocFailed};
 
 /// Why a map file is not read token by token.
-#[derive(Clone, Copy, Debug, PartialEq, Eq)]
+#[derive(Clone, Copy)]
 pub(crate) enum Stop {
     /// It is no map, or one of another form than the usual.
     Unusual,

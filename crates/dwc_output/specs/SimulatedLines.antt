@@ -59,7 +59,7 @@ pub record IsSimulated (name : List ℕ) (code_offset : ℕ) (f : Function) (seg
 
 -- A unit of an output has a line table of version 4, whose only file is the one of the name, without directories, and which has, in order,
 -- one such segment for each of some functions, each with the offset of its own file's code.
-pub record CarriesListed (output : Sections) (name : List ℕ) (fs : List (ℕ × Function)) (v : Unit) : Type 0 where
+pub record CarriesSimulated (output : Sections) (name : List ℕ) (fs : List (ℕ × Function)) (v : Unit) : Type 0 where
   pub made : LineTable
   pub made_read : table_of_unit output v ≡ Ok (Some made)
   pub version : made.header.version ≡ 4

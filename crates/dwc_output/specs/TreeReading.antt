@@ -134,13 +134,13 @@ units_said lists s all number [] = Ok []
 units_said lists s all number (u ∷ us) = unit_said lists s all number u >>= λ t. (units_said lists s all (suc number) us >>= λ ts. Ok (t ∷ ts))
 
 -- units that were read up to a fault, if there is one
-abbrev pub listed_units_said : ListReading → Sections → List Unit → Option Fault → Result (List Tree) Fault
-listed_units_said lists s us (Some fault) = Err fault
-listed_units_said lists s us None = units_said lists s us 0 us
+abbrev pub listing_units_said : ListReading → Sections → List Unit → Option Fault → Result (List Tree) Fault
+listing_units_said lists s us (Some fault) = Err fault
+listing_units_said lists s us None = units_said lists s us 0 us
 
 -- the same of a listing
 abbrev pub listing_said : ListReading → Sections → Listing Fault Unit → Result (List Tree) Fault
-listing_said lists s us = listed_units_said lists s us.items us.fault
+listing_said lists s us = listing_units_said lists s us.items us.fault
 
 -- The trees that `.debug_info` says, where all of it can be read.
 unfoldable pub trees : ListReading → Sections → Result (List Tree) Fault

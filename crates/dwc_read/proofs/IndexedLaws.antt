@@ -9,7 +9,7 @@ use Rattle.dwc_base.specs.Units.{UnitHeader}
 use Rattle.dwc_dwarf.specs.LineHeaders.{text_in}
 use Rattle.dwc_dwarf.specs.Texts.{TextSource, offset_of_text}
 use Rattle.dwc_dwarf.specs.Indexed.{address_from}
-use Rattle.dwc_base.proofs.Steps.{bytes_at-short, number_at-no_bytes}
+use Rattle.dwc_base.proofs.ReadSteps.{bytes_at-short, number_at-no_bytes}
 use Rattle.dwc_read.proofs.AttributeLaws.{drop-past}
 
 -- a number, a text and an address

@@ -8,7 +8,7 @@ pub mod AttributeLaws
 pub mod StepLaws
 pub mod LinkLaws
 pub mod LinkValueLaws
-pub mod RunLaws
+pub mod SkipLaws
 pub mod EntriesLaws
 pub mod LoneLaws
 pub mod IndexedLaws

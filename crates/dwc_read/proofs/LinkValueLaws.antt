@@ -14,7 +14,7 @@ use Rattle.dwc_base.specs.Sections.{Sections, Relocation}
 use Rattle.dwc_base.specs.Units.{UnitHeader}
 use Rattle.dwc_dwarf.specs.Values.{Value, address_index, constant, flag, text_reference, location_reference, line_reference, range_reference, dropped, fixed, variable, Form, addr, indexed_addr, blocks, exprloc, data_of, sdata, implicit, flag_byte, flag_present, string, string_elsewhere, reference, ref_addr, sec_offset, indexed_location, indexed_range, passed_over, supplementary, form_of, is_location_name, is_range_name, section_offset, constant_value, sized_number_at, formed_value_at, form_behind, form_code_at, encoded_value_at, encoding_of, value_at}
 use Rattle.dwc_dwarf.specs.Entries.{attributes_at}
-use Rattle.dwc_base.proofs.Steps.{bytes_at-whole}
+use Rattle.dwc_base.proofs.ReadSteps.{bytes_at-whole}
 use Rattle.dwc_read.specs.declared.attribute_spec.AttributeSpec.{AttributeSpec}
 use Rattle.dwc_read.specs.declared.value.AttributeValue.{AttributeValue}
 use Rattle.dwc_read.specs.AttributeSpecs.{spec_view}

@@ -5,7 +5,7 @@ use Rattle.dwc_base.specs.declared.faults.Flaw.TheVariants.{EndsEarly}
 use Rattle.dwc_base.specs.declared.section_name.SectionName.{SectionName}
 use Rattle.dwc_base.specs.Reading.{number}
 use Rattle.dwc_base.specs.Sections.{Sections, section_from, address_at}
-use Rattle.dwc_base.proofs.Steps.{bytes_at-short, number_at-no_bytes}
+use Rattle.dwc_base.proofs.ReadSteps.{bytes_at-short, number_at-no_bytes}
 use Rattle.dwc_base.specs.FieldSizes.{is_field_size}
 use Rattle.dwc_read.specs.Views.{field_at}
 

@@ -3,7 +3,7 @@ pub mod SectionsSeen
 pub mod Named
 pub mod Sizes
 pub mod AttributeSpecs
-pub mod Runs
+pub mod Skips
 pub mod Tables
 pub mod Codes
 pub mod UnitTables

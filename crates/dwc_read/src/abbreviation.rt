@@ -4,12 +4,12 @@ ghost use Rattle.dwc_base.specs.Cursors.{Gives, GivesOrMemory};
 ghost use Rattle.dwc_base.specs.Reading.{items_at};
 ghost use Rattle.dwc_base.specs.Abbreviations.{implicit_at, attribute_spec_at, declaration_behind as behind_code, declaration_at};
 ghost use Rattle.dwc_read.specs.AttributeSpecs.{spec_view};
-ghost use Rattle.dwc_read.specs.Runs.{AreRuns};
+ghost use Rattle.dwc_read.specs.Skips.{AreSkips};
 ghost use Rattle.dwc_read.specs.Tables.{declaration_view};
 
 use crate::attribute_spec::AttributeSpec;
 use crate::declaration::Declaration;
-use crate::runs::note_runs;
+use crate::skips::note_skips;
 use dwc_base::constants::{DW_CHILDREN_yes, DW_FORM_implicit_const};
 use dwc_base::{Cursor, Flaw, NotRead};
 use std::alloc::Global;
@@ -55,13 +55,13 @@ fn attribute_specs(alloc: Global, cursor: &mut Cursor<'_>) -> Result<Vec<Attribu
     Ok(specs)
 }
 
-// The same, with the runs among them.
+// The same, with the skips among them.
 fn noted_specs(alloc: Global, cursor: &mut Cursor<'_>) -> Result<Vec<AttributeSpec>, NotRead>
     ensures read { GivesOrMemory (λ v. map spec_view v.items) (items_at attribute_spec_at cursor.old) cursor.new result }
-    ensures runs { IfOk result (λ v. AreRuns v.items) }
+    ensures skips { IfOk result (λ v. AreSkips v.items) }
 {
     let mut specs = attribute_specs(alloc, cursor)?;
-    note_runs(specs.as_mut_slice());
+    note_skips(specs.as_mut_slice());
     Ok(specs)
 }
 

@@ -1,5 +1,5 @@
 //! A declaration of an abbreviation table. (DWARF 4 and 5, section 7.5.3.)
-ghost use Rattle.dwc_read.specs.Runs.{AreRuns};
+ghost use Rattle.dwc_read.specs.Skips.{AreSkips};
 
 use crate::attribute_spec::AttributeSpec;
 
@@ -10,5 +10,5 @@ pub struct Declaration {
     pub tag: u16,
     pub has_children: bool,
     pub attributes: Vec<AttributeSpec>,
-    ghost runs: { AreRuns attributes.items },
+    ghost skips: { AreSkips attributes.items },
 }

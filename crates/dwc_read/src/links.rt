@@ -2,7 +2,7 @@
 ghost use Rattle.std.specs.Prelude.{◌≡◌, ◌++◌, map, option_map, option_to_list, OnOk};
 ghost use Rattle.dwc_base.specs.Cursors.{Gives, GivesOrMemory};
 ghost use Rattle.dwc_read.specs.Links.{is_link_name, is_reference, link_at, link_of, links_at};
-ghost use Rattle.dwc_read.specs.Runs.{AreRuns};
+ghost use Rattle.dwc_read.specs.Skips.{AreSkips};
 ghost use Rattle.dwc_read.specs.AttributeSpecs.{spec_view};
 ghost use Rattle.dwc_read.specs.ValuesSeen.{value_view, attribute_view};
 
@@ -73,7 +73,7 @@ fn put_link<'d>(
     Ok(())
 }
 
-// The links among the values of a declaration's attributes, one after another. A run of attributes that lead nowhere is passed in one
+// The links among the values of a declaration's attributes, one after another. A skip over attributes that lead nowhere is passed in one
 // step.
 #[inline(always)]
 pub fn links<'d>(
@@ -82,16 +82,16 @@ pub fn links<'d>(
     cursor: &mut Cursor<'d>,
     found: &mut Vec<(u16, AttributeValue<'d>)>,
 ) -> Result<(), NotRead>
-    requires { AreRuns specs.now }
+    requires { AreSkips specs.now }
     ensures { GivesOrMemory (λ _. map attribute_view found.new.items) (links_at unit.now.sections unit.now.header (map spec_view specs.now) cursor.old) cursor.new result }
 {
     found.clear();
     let mut at = 0;
     while at < specs.len() {
         let spec = specs[at];
-        if spec.run > 0 {
-            cursor.take(spec.run_bytes as usize)?;
-            at += spec.run as usize;
+        if spec.skip > 0 {
+            cursor.take(spec.skip_bytes as usize)?;
+            at += spec.skip as usize;
             continue;
         }
         let link = next_link(unit, spec, cursor)?;

@@ -3,7 +3,7 @@
 use dwc_base::SectionName;
 
 /// Where the text of a value stands, if it stands elsewhere: the section, `.debug_str` or `.debug_line_str`, and the offset in it.
-#[derive(Clone, Copy, Debug, PartialEq, Eq)]
+#[derive(Clone, Copy)]
 pub struct TextPlace {
     pub section: SectionName,
     pub offset: u64,

@@ -276,8 +276,8 @@ impl<'d> Unit<'d> {
     }
 
     /// Where the text that a value names stands elsewhere: at an offset of `.debug_str` or `.debug_line_str`, for a text by an index the
-    /// offset that `.debug_str_offsets` says. (DWARF 5, sections 7.5.5 and 7.26.) None for a text in place, and for a value that is no text.
-    /// The text itself is not read.
+    /// offset that `.debug_str_offsets` says. (DWARF 5, sections 7.5.5 and 7.26.) None for a text in place, and for a value that is no
+    /// text. The text itself is not read.
     ///
     /// Answers `Read` with the unit's offset where the offset at an index passes the end of `.debug_str_offsets`, as [`Unit::name_of`]
     /// does.

@@ -3,7 +3,7 @@
 use dwc_base::Address;
 
 /// The value of an attribute, by its form and name. Texts, blocks and expressions are lent from the section.
-#[derive(Clone, Copy, Debug, PartialEq, Eq)]
+#[derive(Clone, Copy, Debug)]
 pub enum AttributeValue<'d> {
     /// An address.
     Addr(Address),

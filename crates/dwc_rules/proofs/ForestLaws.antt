@@ -8,7 +8,7 @@ use Rattle.std.proofs.Math.Seq.{get_or-append_seam}
 use Rattle.std.proofs.lemmas.List.{append-nil, append_assoc, length-append, length-map}
 use Rattle.std.proofs.lemmas.List.Quantifiers.{position-Some}
 use Rattle.dwc_dwarf.specs.Trees.{TreeValue, address, constant, flag, block, expression, text, line_table, ranges, locations, nothing, entry, TreeEntry, Tree, set_attribute, place_among}
-use Rattle.dwc_rules.specs.Drafts.{Goal, made_of, own_entry, DraftValue, done, goes_to, Draft}
+use Rattle.dwc_rules.specs.Drafts.{Goal, made_of, synthetic_entry, DraftValue, done, goes_to, Draft}
 use Rattle.dwc_rules.specs.DraftForests.{ModuleDrafts, units_drafted, is_made_of, place_in, place_of_goal, settled, settled_entry, settled_unit, trees_from, forest}
 use Rattle.dwc_dwarf.specs.TreeLaws.{size_of_unit, goes_somewhere, values_of, HasAllTargets}
 
@@ -59,11 +59,11 @@ within_if before ds others place p false h is = absurd (none_is p is)
 -- a goal that is somewhere is in a unit of the output
 goal_within : (before : List (List Draft)) (m : ModuleDrafts) (behind : List (List Draft)) (g : Goal) (p : ℕ × ℕ) → place_of_goal (length before) m g ≡ Some p → IsWithin (before ++ (units_drafted m ++ behind)) p
 goal_within before m behind (made_of offset role) p is = found_within (is_made_of offset role) before (units_drafted m) behind p is
-goal_within before m behind (own_entry place) p is = of_own m.own is
+goal_within before m behind (synthetic_entry place) p is = of_synthetic m.synthetic is
   where
-    of_own : (own : Option (List Draft)) → place_in (length before) place own ≡ Some p → IsWithin (before ++ (option_to_list own ++ m.carried ++ behind)) p
-    of_own None h = absurd (none_is p h)
-    of_own (Some ds) h = within_if before ds (m.carried ++ behind) place p (nat_lt place (length ds)) refl h
+    of_synthetic : (synthetic : Option (List Draft)) → place_in (length before) place synthetic ≡ Some p → IsWithin (before ++ (option_to_list synthetic ++ m.carried ++ behind)) p
+    of_synthetic None h = absurd (none_is p h)
+    of_synthetic (Some ds) h = within_if before ds (m.carried ++ behind) place p (nat_lt place (length ds)) refl h
 
 -- ---- sizes of trees
 

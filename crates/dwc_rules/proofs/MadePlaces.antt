@@ -14,7 +14,7 @@ use Rattle.dwc_native.specs.BuiltExpressions.{BuildRefusal}
 use Rattle.dwc_rules.specs.LocationRules.{ExpressionSource}
 use Rattle.dwc_rules.specs.Scopes.{Rises}
 use Rattle.dwc_rules.specs.Wrappers.{WrapperSource, is_wrapped, wrapper, wrapper_types, inner, outer, with_wrapper, entries_made}
-use Rattle.dwc_rules.specs.ContextVariable.{context_over, context_pointer, context_variable, context_entries, located_or_none}
+use Rattle.dwc_rules.specs.ContextVariable.{context_over, context_pointer, context_variable, context_entries, locations_or_none}
 use Rattle.dwc_rules.specs.EntryRules.{wrappers_of}
 use Rattle.dwc_rules.specs.CarriedDrafts.{draft_told, entry_made, unit_drafts}
 use Rattle.dwc_rules.proofs.WrapperLaws.{inner-below, inner-none, outer-below, outer-all}
@@ -119,7 +119,7 @@ module _ (c : ExpressionSource) (s : UnitSource) (big_endian : Bool) (offset : �
   plain-many : (e : Placed) → is_wrapped e ≡ false → many (is_made_of offset role) (entry_made c s big_endian e) ≡ one_if (is_source offset role e)
   plain-many e plain = first role ∙ ap (λ b. one_if ((e.entry.offset == offset) && (b || (role_number role == 0)))) (sym plain)
     where
-      context : (r : Role) (o : Option (Result (List Location) BuildRefusal)) → many (is_made_of offset r) (option_to_list (option_map (λ located. context_variable (suc e.entry.depth) (context_pointer c) (located_or_none located)) o)) ≡ 0
+      context : (r : Role) (o : Option (Result (List Location) BuildRefusal)) → many (is_made_of offset r) (option_to_list (option_map (λ located. context_variable (suc e.entry.depth) (context_pointer c) (locations_or_none located)) o)) ≡ 0
       context r None = refl
       context r (Some located) = refl
 

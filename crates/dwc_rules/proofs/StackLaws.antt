@@ -5,7 +5,7 @@ use Rattle.std.specs.List.{cons_option, filter_map}
 use Rattle.dwc_dwarf.specs.Entries.{Entry}
 use Rattle.dwc_base.specs.Listing.{first_of}
 use Rattle.dwc_base.specs.Wasm.{last_of}
-use Rattle.dwc_base.proofs.Translated.{last_of-push}
+use Rattle.dwc_base.proofs.LastOf.{last_of-push}
 use Rattle.std.proofs.lemmas.Int.{ints}
 use Rattle.std.proofs.lemmas.List.Elements.{All-nil, All-cons, All-head, All-tail}
 use Rattle.dwc_rules.specs.Scopes.{DepthsRise, Given, LeftBelow, TopInForce, left_for, left_under}

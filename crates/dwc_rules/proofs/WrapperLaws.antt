@@ -11,7 +11,7 @@ use Rattle.dwc_rules.specs.Drafts.{Draft}
 use Rattle.dwc_rules.specs.Clones.{UnitSource}
 use Rattle.dwc_native.specs.BuiltExpressions.{BuildRefusal}
 use Rattle.dwc_rules.specs.LocationRules.{ExpressionSource}
-use Rattle.dwc_rules.specs.ContextVariable.{context_over, context_pointer, context_variable, located_or_none}
+use Rattle.dwc_rules.specs.ContextVariable.{context_over, context_pointer, context_variable, locations_or_none}
 use Rattle.dwc_rules.specs.CarriedDrafts.{draft_told, entry_made}
 use Rattle.dwc_rules.specs.Wrappers.{WrapperSource, is_wrapped, wrapper, wrapper_types, inner, outer, with_wrapper, entries_made, closing, types_closed, left_open, made_itself, open_behind, IsBelowOpen, BeginAt, StayInPlace}
 use Rattle.dwc_rules.proofs.ForestLaws.{Each}
@@ -159,8 +159,8 @@ pub entries-in_place : (c : ExpressionSource) (s : UnitSource) (big_endian : Boo
 entries-in_place c s big_endian = record { begin = λ e. refl; within = λ e. go e (draft_told c s big_endian e) refl (context_over c e) }
   where
     go : (e : Placed) (d : Draft) → d.depth ≡ e.entry.depth → (o : Option (Result (List Location) BuildRefusal))
-        → All (λ x. e.entry.depth ≤ x.depth) (d ∷ option_to_list (option_map (λ located. context_variable (suc e.entry.depth) (context_pointer c) (located_or_none located)) o))
+        → All (λ x. e.entry.depth ≤ x.depth) (d ∷ option_to_list (option_map (λ located. context_variable (suc e.entry.depth) (context_pointer c) (locations_or_none located)) o))
     go e d same None = All-cons (λ x. e.entry.depth ≤ x.depth) d [] (omega (arith, same)) (All-nil (λ x. e.entry.depth ≤ x.depth))
     go e d same (Some located) =
-        let v = context_variable (suc e.entry.depth) (context_pointer c) (located_or_none located) in
+        let v = context_variable (suc e.entry.depth) (context_pointer c) (locations_or_none located) in
         All-cons (λ x. e.entry.depth ≤ x.depth) d (v ∷ []) (omega (arith, same)) (All-cons (λ x. e.entry.depth ≤ x.depth) v [] (omega arith) (All-nil (λ x. e.entry.depth ≤ x.depth)))

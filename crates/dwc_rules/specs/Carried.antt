@@ -57,9 +57,9 @@ pub record CarriedUnit : Type 0 where
   pub module_of : Module
   pub unit : Unit
 
--- What a unit of an output is to be: a module's own, one for a carried unit, or the last one, with a file of a name, for the functions of
--- modules that are listed, since their numbers are none of those that are translated.
+-- What a unit of an output is to be: a module's synthetic one, one for a carried unit, or the simulated one, with a file of a name, for the
+-- functions of modules that are simulated, since their numbers are none of those that are translated.
 pub data WantedUnit : Type 0 where
-  own_unit : WantedUnit
+  synthetic_unit : WantedUnit
   carried_unit : CarriedUnit → WantedUnit
-  listed_unit : List ℕ → (ℕ → Bool) → List Module → WantedUnit
+  unit_of_simulated : List ℕ → (ℕ → Bool) → List Module → WantedUnit

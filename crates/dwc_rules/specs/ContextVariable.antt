@@ -4,9 +4,9 @@ use Rattle.std.specs.Prelude.{ℕ, suc, ◌==◌, List, [], ◌∷◌, true, fal
 use Rattle.dwc_base.specs.declared.constants.TheConstants.{DW_AT_location, DW_AT_name, DW_AT_type, DW_TAG_subprogram, DW_TAG_variable}
 use Rattle.dwc_rules.specs.Kept.{Placed}
 use Rattle.dwc_dwarf.specs.Trees.{Location, text, locations}
-use Rattle.dwc_rules.specs.Drafts.{own_entry, DraftValue, goes_to, Draft}
+use Rattle.dwc_rules.specs.Drafts.{synthetic_entry, DraftValue, goes_to, Draft}
 use Rattle.dwc_rules.specs.MadeEntries.{named, made}
-use Rattle.dwc_rules.specs.OwnUnits.{place_of_context_pointer}
+use Rattle.dwc_rules.specs.SyntheticUnit.{place_of_context_pointer}
 use Rattle.dwc_native.specs.Parts.{context_label}
 use Rattle.dwc_native.specs.BuiltExpressions.{BuildRefusal, label_over}
 use Rattle.dwc_rules.specs.LocationAttributes.{InForce}
@@ -23,9 +23,9 @@ unfoldable pub context_over : ExpressionSource → Placed → Option (Result (Li
 context_over c e = elim (e.entry.tag == DW_TAG_subprogram) [ true ↦ context_in (in_force_at c e) | false ↦ None ]
 
 -- the locations, none where they are refused
-abbrev pub located_or_none : Result (List Location) BuildRefusal → List Location
-located_or_none (Ok ls) = ls
-located_or_none (Err refusal) = []
+abbrev pub locations_or_none : Result (List Location) BuildRefusal → List Location
+locations_or_none (Ok ls) = ls
+locations_or_none (Err refusal) = []
 
 -- why they are refused
 abbrev pub location_refusals : Option (Result (List Location) BuildRefusal) → List BuildRefusal
@@ -41,8 +41,8 @@ context_variable depth type located = made depth DW_TAG_variable (named DW_AT_na
 
 -- the type of a pointer to the context of the module
 abbrev pub context_pointer : ExpressionSource → DraftValue
-context_pointer c = goes_to (own_entry (place_of_context_pointer c.told.memory))
+context_pointer c = goes_to (synthetic_entry (place_of_context_pointer c.told.memory))
 
 -- What an entry gets before its kept children: a subprogram with a scope in force the variable, and all others nothing.
 abbrev pub context_entries : ExpressionSource → Placed → List Draft
-context_entries c e = option_to_list (option_map (λ located. context_variable (suc e.entry.depth) (context_pointer c) (located_or_none located)) (context_over c e))
+context_entries c e = option_to_list (option_map (λ located. context_variable (suc e.entry.depth) (context_pointer c) (locations_or_none located)) (context_over c e))

@@ -3,19 +3,19 @@
 use Rattle.std.specs.Prelude.{ℕ, ◌+◌, ◌==◌, List, [], ◌∷◌, ◌++◌, map, length, Bool, false, nat_lt, ◌&&◌, if◌then◌else◌, Option, Some, None, option_map, option_to_list}
 use Rattle.std.specs.List.{filter_map}
 use Rattle.dwc_dwarf.specs.Trees.{TreeValue, entry, TreeEntry, Tree, set_in_order, place_among}
-use Rattle.dwc_rules.specs.Drafts.{Role, itself, pointer_to_wrapper, reference_to_target, pointer_to_target, Goal, made_of, own_entry, DraftValue, done, goes_to, Draft}
+use Rattle.dwc_rules.specs.Drafts.{Role, itself, pointer_to_wrapper, reference_to_target, pointer_to_target, Goal, made_of, synthetic_entry, DraftValue, done, goes_to, Draft}
 
 -- ---- goals
 
--- The entries of the units of a module, before their places are known: of its own unit, where it has one, and of its carried units
+-- The entries of the units of a module, before their places are known: of its synthetic unit, where it has one, and of its carried units
 -- in order.
 pub record ModuleDrafts : Type 0 where
-  pub own : Option (List Draft)
+  pub synthetic : Option (List Draft)
   pub carried : List (List Draft)
 
 -- the units in the order of the output
 abbrev pub units_drafted : ModuleDrafts → List (List Draft)
-units_drafted m = option_to_list m.own ++ m.carried
+units_drafted m = option_to_list m.synthetic ++ m.carried
 
 -- roles by number
 abbrev pub role_number : Role → ℕ
@@ -40,7 +40,7 @@ place_in number place (Some ds) = if nat_lt place (length ds) then Some (number,
 -- Where a goal is, in a module whose first unit has a number: a unit's number and a place there; none where it is not in the output.
 abbrev pub place_of_goal : ℕ → ModuleDrafts → Goal → Option (ℕ × ℕ)
 place_of_goal number m (made_of offset role) = place_among (is_made_of offset role) number (units_drafted m)
-place_of_goal number m (own_entry place) = place_in number place m.own
+place_of_goal number m (synthetic_entry place) = place_in number place m.synthetic
 
 -- ---- trees
 
@@ -66,7 +66,7 @@ abbrev pub trees_from : ℕ → List ModuleDrafts → List Tree
 trees_from number [] = []
 trees_from number (m ∷ ms) = map (settled_unit (place_of_goal number m)) (units_drafted m) ++ trees_from (number + length (units_drafted m)) ms
 
--- The trees of an output: module by module its own unit and its carried ones, and last, where there is one, a unit whose references
+-- The trees of an output: module by module its synthetic unit and its carried ones, and last, where there is one, a unit whose references
 -- go to places already.
 unfoldable pub forest : List ModuleDrafts → Option (List Draft) → List Tree
 forest ms last = trees_from 0 ms ++ map (settled_unit (λ goal. None)) (option_to_list last)

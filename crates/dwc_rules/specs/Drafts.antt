@@ -11,10 +11,10 @@ pub data Role : Type 0 where
   pointer_to_target : Role
 
 -- What a reference goes to: an entry of the output by the offset of the input entry that it stems from, in the same
--- module, or an entry of the module's own unit by its place there.
+-- module, or an entry of the module's synthetic unit by its place there.
 pub data Goal : Type 0 where
   made_of : ℕ → Role → Goal
-  own_entry : ℕ → Goal
+  synthetic_entry : ℕ → Goal
 
 -- what an attribute is to say, while references go to goals
 pub data DraftValue : Type 0 where

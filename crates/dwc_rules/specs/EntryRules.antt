@@ -18,10 +18,10 @@ use Rattle.dwc_rules.specs.RangeRules.{code_becomes, told_as}
 use Rattle.dwc_native.specs.BuiltExpressions.{BuildRefusal, bad_label_range, without_memory, jump_too_large}
 use Rattle.dwc_native.specs.BuiltExpressions as Builds
 use Rattle.dwc_rules.specs.LocationAttributes.{LocationRefusal}
-use Rattle.dwc_rules.specs.LocationAttributes as Located
+use Rattle.dwc_rules.specs.LocationAttributes as Locations
 use Rattle.dwc_rules.specs.LocationRules.{ExpressionSource, lists_of, expression_becomes, expression_refused, locations_become}
 use Rattle.dwc_dwarf.specs.Indexed.{texts_of_unit}
-use Rattle.dwc_rules.specs.OwnUnits.{place_of_wasm_pointer}
+use Rattle.dwc_rules.specs.SyntheticUnit.{place_of_wasm_pointer}
 use Rattle.dwc_rules.specs.Wrappers.{WrapperSource, wrapper_refusals}
 use Rattle.dwc_rules.specs.ContextVariable.{context_over, location_refusals}
 use Rattle.dwc_rules.specs.Refusals.{Refusal, of_place, long_range, bad_label, lacks_memory, unmapped_register, long_jump}
@@ -49,8 +49,8 @@ of_build place jump_too_large = long_jump
 
 -- what one is refused for that is read and built
 abbrev pub of_location : ℕ → LocationRefusal → Refusal
-of_location place (Located.of_place fault) = of_place fault
-of_location place (Located.of_build refusal) = of_build place refusal
+of_location place (Locations.of_place fault) = of_place fault
+of_location place (Locations.of_build refusal) = of_build place refusal
 
 -- What an attribute becomes that speaks of code and is no bound, behind some others: an expression, a location list, an address or
 -- a range list.

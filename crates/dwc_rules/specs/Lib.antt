@@ -9,7 +9,7 @@ pub mod Clones
 pub mod CarriedDrafts
 pub mod DraftForests
 pub mod MadeEntries
-pub mod OwnUnits
+pub mod SyntheticUnit
 pub mod TypeNames
 pub mod Wrappers
 pub mod ObjectPointers

@@ -14,7 +14,7 @@ use Rattle.dwc_base.specs.declared.constants.TheConstants.{DW_AT_stmt_list}
 -- that is not there, or one with an empty name; a function that is longer than an addend can say; a start plus a length that is
 -- no address; of an expression a label that has a range which begins above its end, the linear memory of the module at a place,
 -- which has none, a register without a DWARF number, or a jump that goes too far; a linear memory too far behind in its context; a path
--- of the last unit that names no file; or the frame description of a function, which cannot be written.
+-- of the simulated unit that names no file; or the frame description of a function, which cannot be written.
 pub data Refusal : Type 0 where
   of_place : Fault → Refusal
   missing_file : ℕ → Refusal

@@ -8,7 +8,7 @@ use Rattle.dwc_base.specs.declared.records.Address.TheVariants.{Constant, Symbol
 use Rattle.dwc_dwarf.specs.Entries.{Entry}
 use Rattle.dwc_native.specs.Functions.{Function, function_at, recorded_sources}
 use Rattle.dwc_base.specs.declared.constants.TheConstants.{DW_AT_high_pc, DW_AT_low_pc, DW_AT_ranges, DW_TAG_pointer_type, DW_TAG_reference_type}
-use Rattle.dwc_rules.specs.Carried.{CarriedUnit, WantedUnit, own_unit, carried_unit, listed_unit}
+use Rattle.dwc_rules.specs.Carried.{CarriedUnit, WantedUnit, synthetic_unit, carried_unit, unit_of_simulated}
 use Rattle.dwc_dwarf.specs.Trees.{Interval, TreeValue, address, constant, ranges, TreeEntry, Tree}
 use Rattle.dwc_rules.specs.Drafts.{itself, Draft}
 use Rattle.dwc_rules.specs.DraftForests.{is_made_of}
@@ -70,11 +70,11 @@ abbrev pub UnitCarriesScopes : (CarriedUnit → List Draft) → CarriedUnit → 
 UnitCarriesScopes drafted u tree =
     AllZip (λ d out. (e : Entry) → Contains u.unit.entries e → is_made_of e.offset itself d ≡ true → CarriesScope (list_source u.module_of.sections u.unit.header) u.module_of.functions e out) (drafted u) tree
 
--- a module's own unit has none, nor has the last one
+-- a module's synthetic unit has none, nor has the simulated one
 abbrev pub UnitHasScopes : (CarriedUnit → List Draft) → WantedUnit → Tree → Type 0
-UnitHasScopes drafted own_unit tree = Unit {0}
+UnitHasScopes drafted synthetic_unit tree = Unit {0}
 UnitHasScopes drafted (carried_unit u) tree = UnitCarriesScopes drafted u tree
-UnitHasScopes drafted (listed_unit name translated ms) tree = Unit {0}
+UnitHasScopes drafted (unit_of_simulated name translated ms) tree = Unit {0}
 
 -- The scopes of an input are carried by the units of an output, each of which is to be one.
 abbrev pub ScopesCarried : (CarriedUnit → List Draft) → List WantedUnit → List Tree → Type 0

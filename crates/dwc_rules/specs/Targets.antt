@@ -34,13 +34,13 @@ entry_among place [] last = fault_up_to place last
 entry_among place (e ∷ es) last = if nat_lt place e.offset then Ok None else (if e.offset == place then Ok (Some e) else entry_among place es last)
 
 -- the same of a listing
-abbrev pub entry_listed : ℕ → Listing Fault Entry → Result (Option Entry) Fault
-entry_listed place es = entry_among place es.items es.fault
+abbrev pub entry_in_listing : ℕ → Listing Fault Entry → Result (Option Entry) Fault
+entry_in_listing place es = entry_among place es.items es.fault
 
 -- The entry of a unit that begins at a place of `.debug_info`, none where none begins there; all entries up to the place are
 -- read.
 unfoldable pub entry_begun_at : Sections → UnitHeader → ℕ → Result (Option Entry) Fault
-entry_begun_at s h place = abbreviation_table s h.abbreviations >>= λ table. entry_listed place (entries_from s h table (root_place h))
+entry_begun_at s h place = abbreviation_table s h.abbreviations >>= λ table. entry_in_listing place (entries_from s h table (root_place h))
 
 -- the entry of its unit that a unit reference goes to
 abbrev pub entry_resolved : Sections → UnitHeader → Value → Result (Option Entry) Fault

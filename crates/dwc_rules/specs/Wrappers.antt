@@ -9,11 +9,11 @@ use Rattle.dwc_rules.specs.Kept.{Placed}
 use Rattle.dwc_dwarf.specs.Texts.{TextSource}
 use Rattle.dwc_rules.specs.TypeNames.{type_of, unknown, type_name}
 use Rattle.dwc_dwarf.specs.Trees.{flag, text}
-use Rattle.dwc_rules.specs.Drafts.{Role, itself, pointer_to_wrapper, reference_to_target, pointer_to_target, made_of, own_entry, DraftValue, goes_to, Draft}
+use Rattle.dwc_rules.specs.Drafts.{Role, itself, pointer_to_wrapper, reference_to_target, pointer_to_target, made_of, synthetic_entry, DraftValue, goes_to, Draft}
 use Rattle.dwc_rules.specs.MadeEntries.{named, data1, made}
 
 -- What wrappers are made with: the texts of their unit, the entries of its section, the name of the function that makes a native
--- pointer of an address, and the place of the type of an address in the module's own unit.
+-- pointer of an address, and the place of the type of an address in the module's synthetic unit.
 pub record WrapperSource : Type 0 where
   pub texts : TextSource
   pub entries : List Placed
@@ -70,7 +70,7 @@ abbrev pub wrapper : WrapperSource → Placed → List Draft
 wrapper s e =
     beside e itself DW_TAG_structure_type (named DW_AT_name (text (wrapper_name e.entry.tag (name_or_unknown (type_name s.texts s.entries e)))) ∷ named DW_AT_byte_size (data1 4) ∷ [])
     ∷ made (suc e.entry.depth) DW_TAG_template_type_parameter (named DW_AT_name (text (codes "T")) ∷ target_type s e)
-    ∷ made (suc e.entry.depth) DW_TAG_member (named DW_AT_name (text (codes "__ptr")) ∷ (DW_AT_type, goes_to (own_entry s.wasm_pointer)) ∷ named DW_AT_data_member_location (data1 0) ∷ [])
+    ∷ made (suc e.entry.depth) DW_TAG_member (named DW_AT_name (text (codes "__ptr")) ∷ (DW_AT_type, goes_to (synthetic_entry s.wasm_pointer)) ∷ named DW_AT_data_member_location (data1 0) ∷ [])
     ∷ method s e (codes "ptr") pointer_to_target
     ++ method s e (codes "operator*") reference_to_target
     ++ method s e (codes "operator->") pointer_to_target

@@ -8,8 +8,8 @@ use Rattle.dwc_base.specs.Reading.{Unread, Read, ◌>>=◌, seen_as, counted_at,
 use Rattle.dwc_dwarf.specs.LineHeaders as spec
 use Rattle.dwc_dwarf.specs.Texts.{TextSource, text_in, offset_of_text}
 use Rattle.dwc_dwarf.specs.LineHeaders.{LineFile, LineSource, entry_field_at, entry_fields_at}
-use Rattle.dwc_base.proofs.Steps.{bytes_at-short, number_at-no_bytes}
-use Rattle.dwc_tabs.specs.declared.entries.EntryFormat.{EntryFormat}
+use Rattle.dwc_base.proofs.ReadSteps.{bytes_at-short, number_at-no_bytes}
+use Rattle.dwc_tabs.specs.declared.file_entries.EntryFormat.{EntryFormat}
 use Rattle.dwc_tabs.specs.Headers.{format_view}
 
 as_seen : {A : Type 0} (x : A) (r : Read (List A)) → (r >>= λ others. Ok (x ∷ others.0, others.1)) ≡ seen_as (λ ys. x ∷ ys) r

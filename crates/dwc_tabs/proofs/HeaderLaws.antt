@@ -9,7 +9,7 @@ use Rattle.dwc_dwarf.specs.LineHeaders.{LineFile, file_behind, file_at}
 use Rattle.dwc_base.proofs.Items.{Leaves}
 use Rattle.dwc_base.proofs.Takes.{Leaves-bind, Leaves-same, text_at-leaves}
 use Rattle.dwc_base.proofs.TakesMore.{Leaves-more, uleb_at-leaves}
-use Rattle.dwc_base.proofs.Steps.{bytes_at-short, bytes_at-whole}
+use Rattle.dwc_base.proofs.ReadSteps.{bytes_at-short, bytes_at-whole}
 
 -- what stands behind a file's name goes not back
 file_behind-leaves : (name : List ℕ) (u : Unread) → Leaves (file_behind name u) (suc (length u.left))

@@ -14,5 +14,5 @@ pub mod RangeLaws
 pub mod GivenLaws
 pub mod RangeEndLaws
 pub mod LocationLaws
-pub mod LocatedLaws
+pub mod ListedLocationLaws
 pub mod OperationLaws

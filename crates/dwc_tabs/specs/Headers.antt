@@ -9,7 +9,7 @@ use Rattle.dwc_tabs.specs.declared.header.LineFile.{LineFile}
 use Rattle.dwc_tabs.specs.declared.parameters.Parameters.{Parameters}
 use Rattle.dwc_tabs.specs.declared.header.Names.{Names}
 use Rattle.dwc_tabs.specs.declared.header.Header.{Header}
-use Rattle.dwc_tabs.specs.declared.entries.EntryFormat.{EntryFormat}
+use Rattle.dwc_tabs.specs.declared.file_entries.EntryFormat.{EntryFormat}
 use Rattle.dwc_tabs.specs.declared.source.Source.{Source}
 
 -- a file

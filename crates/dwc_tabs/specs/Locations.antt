@@ -12,7 +12,7 @@ use Rattle.dwc_dwarf.specs.Values.{Value}
 use Rattle.dwc_dwarf.specs.Trees.{Interval}
 use Rattle.dwc_dwarf.specs.RawLists.{RawEntry, RawLocation, list_fault}
 use Rattle.dwc_dwarf.specs.Lists as Definitions
-use Rattle.dwc_dwarf.specs.Lists.{ListRefusal, list_source, located, locations_of_value}
+use Rattle.dwc_dwarf.specs.Lists.{ListRefusal, list_source, with_expression, locations_of_value}
 use Rattle.dwc_read.specs.declared.fault.ReadFault.{ReadFault}
 use Rattle.dwc_read.specs.Faults.{fault_seen}
 use Rattle.dwc_tabs.specs.declared.list_fault.ListFault.{ListFault}
@@ -30,12 +30,12 @@ abbrev pub said : Listing Fault RawLocation → Listing Fault RawEntry
 said left = record { items = map (λ e. e.says) left.items; fault = left.fault }
 
 -- what each entry gives, with its expression
-abbrev pub each_located : List RawLocation → Listing ListRefusal (Option Interval) → Listing ListRefusal (Option Definitions.ListedLocation)
-each_located entries given = record { items = map located (zip given.items (map (λ e. e.holds) entries)); fault = given.fault }
+abbrev pub each_with_expression : List RawLocation → Listing ListRefusal (Option Interval) → Listing ListRefusal (Option Definitions.ListedLocation)
+each_with_expression entries given = record { items = map with_expression (zip given.items (map (λ e. e.holds) entries)); fault = given.fault }
 
 -- what the entries of a location list of a unit that are still to come give from a base on
 unfoldable pub locations_given : Sections → UnitHeader → LocationEntriesView → Address → Listing ListRefusal (Option Definitions.ListedLocation)
-locations_given s h e base = each_located e.left.items (given_from (list_source s h) (list_fault LocationList e.place) (said e.left) base)
+locations_given s h e base = each_with_expression e.left.items (given_from (list_source s h) (list_fault LocationList e.place) (said e.left) base)
 
 -- ---- one call
 

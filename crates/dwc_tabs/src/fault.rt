@@ -9,7 +9,7 @@ use dwc_base::{Flaw, Kind, SectionName, What};
 use thiserror::Error;
 
 /// Why a line table is refused.
-#[derive(Clone, Copy, Debug, PartialEq, Eq, Error)]
+#[derive(Clone, Copy, Debug, Error)]
 pub enum TabFault {
     /// The bytes at `offset` of a section are no such thing of the grammar.
     #[error("Read {what:?} {name} {offset}", name = section.text())]

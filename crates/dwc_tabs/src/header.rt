@@ -6,7 +6,7 @@ ghost use Rattle.dwc_base.specs.Cursors.{Gives, GivesLast, GivesOrMemory, GivesL
 ghost use Rattle.dwc_base.specs.FieldSizes.{is_field_size};
 ghost use Rattle.dwc_tabs.specs.Headers.{file_view, names_view, header_view, source_view};
 
-use crate::entries::{directories_of_5, files_of_5};
+use crate::file_entries::{directories_of_5, files_of_5};
 use crate::parameters::Parameters;
 use crate::source::Source;
 use dwc_base::fields::sized_part;
@@ -14,7 +14,7 @@ use dwc_base::{Cursor, Flaw, Kind, NotRead};
 use std::alloc::Global;
 
 /// A file of a line table.
-#[derive(Clone, Copy, Debug)]
+#[derive(Clone, Copy)]
 pub struct LineFile<'d> {
     /// The number of its directory; 0 is the compilation directory.
     pub directory: u64,

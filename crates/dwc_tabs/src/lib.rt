@@ -4,10 +4,10 @@
 //! The operations of expressions. (DWARF 4 and 5, sections 2.5 and 7.7.1.)
 #![tactic(auto)]
 
-mod entries;
 mod entry_given;
 mod entry_kind;
 mod fault;
+mod file_entries;
 mod header;
 mod instruction;
 mod list_fault;

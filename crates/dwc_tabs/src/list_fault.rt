@@ -4,7 +4,7 @@ use dwc_base::{Kind, SectionName, What};
 use thiserror::Error;
 
 /// Why the intervals of a list are not told.
-#[derive(Clone, Copy, Debug, PartialEq, Eq, Error)]
+#[derive(Clone, Copy, Debug, Error)]
 pub enum ListFault {
     /// The bytes at `offset` of a section are no such thing of the grammar.
     #[error("Read {what:?} {name} {offset}", name = section.text())]

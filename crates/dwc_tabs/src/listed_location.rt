@@ -1,6 +1,6 @@
 //! An interval of a location list, with its expression. (DWARF 4, section 2.6.2; DWARF 5, section 2.6.2.)
 ghost use Rattle.std.specs.Prelude.{◌≡◌, option_map};
-ghost use Rattle.dwc_dwarf.specs.Lists.{located as located_by};
+ghost use Rattle.dwc_dwarf.specs.Lists.{with_expression as expression_added};
 ghost use Rattle.dwc_tabs.specs.RangeEnds.{interval_view};
 ghost use Rattle.dwc_tabs.specs.LocationLists.{placed_view};
 ghost use Rattle.dwc_tabs.specs.Locations.{listed_view};
@@ -25,11 +25,11 @@ pub struct ListedLocation<'d> {
 
 // What an entry gives, with its expression; None where either is missing.
 #[inline(always)]
-pub(crate) fn located<'d>(
+pub(crate) fn with_expression<'d>(
     interval: Option<(Address, Address)>,
     holds: Option<PlacedExpression<'d>>,
 ) -> Option<ListedLocation<'d>>
-    ensures { option_map listed_view result ≡ located_by (option_map interval_view interval, option_map placed_view holds.entry) }
+    ensures { option_map listed_view result ≡ expression_added (option_map interval_view interval, option_map placed_view holds.entry) }
 {
     let (begin, end) = interval?;
     let expression = holds?;

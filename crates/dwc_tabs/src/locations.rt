@@ -9,7 +9,7 @@ ghost use Rattle.dwc_tabs.specs.Locations.{listed_view, locations_given};
 use crate::entry_given::given_at;
 use crate::list_fault::ListFault;
 use crate::list_start::{ListStart, told};
-use crate::listed_location::{ListedLocation, located};
+use crate::listed_location::{ListedLocation, with_expression};
 use crate::location_entries::LocationEntries;
 use crate::location_entry::LocationRange;
 use dwc_base::Address;
@@ -84,7 +84,7 @@ impl<'u, 'd> Locations<'u, 'd> {
     pub fn next_listed(&mut self) -> Result<Option<ListedLocation<'d>>, ListFault>
         ensures { GivesNextOf listed_view self.old self.new result }
     {
-        next_located(self.unit, &mut self.entries, &mut self.base)
+        next_with_expression(self.unit, &mut self.entries, &mut self.base)
     }
 }
 
@@ -120,7 +120,7 @@ fn next_given<'d>(
         Ok(Some(entry)) => match range_given(unit, start, *base, entry.says) {
             Ok(given) => {
                 *base = given.1;
-                Ok(Some(located(given.0, entry.holds)))
+                Ok(Some(with_expression(given.0, entry.holds)))
             }
             Err(refusal) => {
                 *entries = before;
@@ -133,7 +133,7 @@ fn next_given<'d>(
 }
 
 // The next interval with its expression, if there is one.
-fn next_located<'d>(
+fn next_with_expression<'d>(
     unit: &Unit<'_>,
     entries: &mut LocationEntries<'d>,
     base: &mut Address,

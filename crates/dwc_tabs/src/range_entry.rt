@@ -12,7 +12,7 @@ use dwc_base::fields::address;
 use dwc_base::{Address, Cursor, Flaw, Relocations};
 
 /// An entry of a range list with its operands as they stand, an address by an index as its index.
-#[derive(Clone, Copy, Debug, PartialEq, Eq)]
+#[derive(Clone, Copy)]
 pub enum RangeEntry {
     /// `DW_RLE_base_addressx`: the index of an address.
     BaseAddressx(u64),

@@ -2,7 +2,7 @@
 use dwc_base::{Address, LineRow};
 
 /// A step of a line table, in the order of its program.
-#[derive(Clone, Copy, Debug, PartialEq, Eq)]
+#[derive(Clone, Copy)]
 pub enum LineStep {
     /// A `DW_LNE_set_address`: the offsets of the rows behind it count from this address.
     Start(Address),

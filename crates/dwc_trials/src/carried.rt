@@ -4,11 +4,12 @@ ghost use Rattle.dwc_base.specs.TranslationNames.{HasSortedNames};
 
 use crate::compiled::{functions_of, transform_of};
 use crate::module_file::SMALL;
+use dwc_base::ModuleTranslation;
 use dwc_base::constants::DW_TAG_subprogram;
-use dwc_base::{ModuleTranslation, split_wasm};
 use dwc_carry::{build_dependencies, resolve_die_ref};
 use dwc_kept::Kept;
 use dwc_read::{AttributeValue, Sections, Units};
+use dwc_wasm::split_wasm;
 use dwc_write::StringTable;
 use std::alloc::Global;
 use std::test::Fail;

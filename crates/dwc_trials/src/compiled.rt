@@ -1,7 +1,8 @@
 //! A module that defines one function, compiled.
 ghost use Rattle.std.specs.Prelude.{◌≡◌, [], ◌∷◌, map, length, IfOk, All};
 ghost use Rattle.dwc_base.specs.TranslationNames.{HasSortedNames};
-ghost use Rattle.dwc_addr.specs.Compilations.{lists, AreNames};
+ghost use Rattle.dwc_addr.specs.Compilations.{lists};
+ghost use Rattle.dwc_isa.specs.ToldModules.{AreNames};
 
 use dwc_addr::{AddressTransform, Compilation, LinkageNames, ModuleMemoryOffset};
 use dwc_base::{Endian, FilePos, ModuleTranslation, StaticModuleIndex, SymbolId, Tunables};
@@ -16,6 +17,7 @@ const TUNABLES: Tunables = Tunables {
     debug_symbols: true,
     page_align: 4096,
     internal_traps: false,
+    dwarf_version: 4,
 };
 
 const NAMES: LinkageNames<'static> = LinkageNames {

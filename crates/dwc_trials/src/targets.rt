@@ -1,7 +1,7 @@
 //! The common information entry of a target, through the trait as a caller has it.
 ghost use Rattle.std.specs.Prelude.{◌≡◌, IfOk, true};
 ghost use Rattle.dwc_native.specs.CallFrames.{is_sound};
-ghost use Rattle.dwc_clif.specs.CallFrames.{cie_view};
+ghost use Rattle.dwc_isa.specs.CallFrames.{cie_view};
 
 use dwc_base::Endian;
 use dwc_clif::{Architecture, Cie, FrameOp, TableIsa, TargetIsa};

@@ -1,8 +1,8 @@
 //! Entries that are read alone.
 use crate::module_file::SMALL;
 use dwc_base::constants::{DW_TAG_compile_unit, DW_TAG_subprogram};
-use dwc_base::split_wasm;
 use dwc_read::{Sections, Units};
+use dwc_wasm::split_wasm;
 use std::test::Fail;
 
 #[test]

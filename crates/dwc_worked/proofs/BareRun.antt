@@ -1,5 +1,5 @@
--- The module without sections of DWARF from its bytes to the printed text, which holds the module's own unit and the last one: its function is
--- listed there.
+-- The module without sections of DWARF from its bytes to the printed text, which holds the module's synthetic unit and the simulated one:
+-- its function is simulated there.
 use Rattle.std.proofs.Common.{◌≡◌, zero, suc, arith, List, [], ◌∷◌, get_or, Some, None, true, refl, sym, ap, subst, ◌∙◌}
 use Rattle.std.specs.Prelude.{ℕ, All, codes}
 use Rattle.std.specs.List.{AllZip}
@@ -20,9 +20,9 @@ use Rattle.dwc_output.specs.TreeReading.{ranges_read}
 use Rattle.dwc_dwarf.specs.Trees.{Tree}
 use Rattle.dwc_worked.proofs.FieldCases.{each-behind}
 use Rattle.dwc_worked.proofs.OutputSmall.{HasForm}
-use Rattle.dwc_worked.proofs.OwnTrees.{own_tree}
+use Rattle.dwc_worked.proofs.SyntheticTrees.{synthetic_tree}
 use Rattle.dwc_worked.proofs.SimulatedInputs.{simulated_front, simulated_function}
-use Rattle.dwc_worked.proofs.SimulatedOutput.{output_listed, lines-listed}
+use Rattle.dwc_worked.proofs.SimulatedOutput.{output_simulated, lines-simulated}
 use Rattle.dwc_cli.specs.Inputs.{Loaded, compilation_of}
 use Rattle.dwc_cli.specs.RunStatus.{CarryInput}
 use Rattle.dwc_worked.proofs.OutputParts.{all-from, names-from, no_section}
@@ -53,7 +53,7 @@ all-short = refl
 -- ---- the lines of the output
 
 abbrev pub output_bare : List OutputSection
-output_bare = output_listed
+output_bare = output_simulated
 
 all-read : All (λ m. (units m.sections).fault ≡ None) compilation_bare.modules
 unfolding whole_on_literals
@@ -66,7 +66,7 @@ lines-bare = record {
   whole = all-read;
   output = (units (output_sections Little output_bare)).items;
   output_read = refl;
-  each = (refl, (lines-listed, tt));
+  each = (refl, (lines-simulated, tt));
 }
 
 -- ---- its form
@@ -114,9 +114,9 @@ related-bare = all-from (IsRelocated (output_sections Little output_bare)) outpu
 
 -- ---- the text
 
--- the own unit, and the last one with the function
+-- the synthetic unit, and the simulated one with the function
 abbrev pub trees_bare : List Tree
-trees_bare = own_tree 0 ∷ simulated_front (codes "g.wasm") (codes "/m") (interval_of 0 (0, 30) ∷ []) (simulated_function 0 30 (codes "wasm-function[0]") 25 ∷ []) ∷ []
+trees_bare = synthetic_tree 0 ∷ simulated_front (codes "g.wasm") (codes "/m") (interval_of 0 (0, 30) ∷ []) (simulated_function 0 30 (codes "wasm-function[0]") 25 ∷ []) ∷ []
 
 carried_bare : OutputCarried compilation_bare output_bare
 unfolding whole_on_literals ranges_read
@@ -149,7 +149,7 @@ carries-bare = record {
   short = ap (λ c. have_short_expressions (trees_made c)) bare-told ∙ all-short;
 }
 
--- and an output without units carries nothing, since the own unit is missing
+-- and an output without units carries nothing, since the synthetic unit is missing
 nothing_carried-bare : LinesCarried (compilation_of read_bare) [] → ⊥
 unfolding whole_on_literals
 nothing_carried-bare h =

@@ -1,4 +1,4 @@
--- An output for the small module, and that it carries the small module's lines: the module's own unit, and behind it the carried one.
+-- An output for the small module, and that it carries the small module's lines: the module's synthetic unit, and behind it the carried one.
 use Rattle.std.proofs.Common.{◌≡◌, ℕ, ◌<◌, ◌≤◌, pos, List, [], ◌∷◌, ◌++◌, Some, None, Ok, true, false, refl, arith, lit≤}
 use Rattle.std.specs.Prelude.{codes, All, Bool, nat_le, if◌then◌else◌, Option}
 use Rattle.std.specs.Option.{option_or, is_some}
@@ -8,7 +8,7 @@ use Rattle.std.proofs.lemmas.Bool.{false≢true, true≢false}
 use Rattle.dwc_worked.proofs.DraftsOnLiterals.{drafts_on_literals}
 use Rattle.dwc_worked.proofs.Readings.{three_sections, sections_small, header_small}
 use Rattle.dwc_worked.proofs.Numbers.{at_place}
-use Rattle.dwc_worked.proofs.OwnTrees.{own_abbreviations, own_content, own_info, own_texts, empty_list, to_section, own_relocations}
+use Rattle.dwc_worked.proofs.SyntheticTrees.{synthetic_abbreviations, synthetic_content, synthetic_info, synthetic_texts, empty_list, to_section, synthetic_relocations}
 use Rattle.dwc_worked.proofs.SmallModule.{file_small_told, told_small}
 use Rattle.dwc_worked.proofs.LineTables.{line_in, the_table, function_small, segments_small, at_line, line_of_a_c}
 use Rattle.dwc_base.specs.declared.records.Endian.TheVariants.{Little}
@@ -36,14 +36,14 @@ content_out =
     ∷ 0x02 ∷ 0x00 ∷ 0x00 ∷ 0x00 ∷ 0x00 ∷ 0x00 ∷ 0x00 ∷ 0x00 ∷ 0x00 ∷ 0x1E
     ∷ 0x03 ∷ 0x6C ∷ 0x00 ∷ 0x00 ∷ 0x00 ∷ 0x3C ∷ 0x00 ∷ 0x00 ∷ 0x00 ∷ 0x00 ∷ 0x00 ∷ 0x00 ∷ 0x00 ∷ 0x00 ∷ 0x00 ∷ []
 
--- each section begins with what the module's own unit has in it
+-- each section begins with what the module's synthetic unit has in it
 abbrev pub output_small : List OutputSection
 output_small =
-    record { name = codes ".debug_abbrev"; body = own_abbreviations ++ (0x01 ∷ 0x11 ∷ 0x01 ∷ 0x10 ∷ 0x17 ∷ 0x00 ∷ 0x00 ∷ 0x02 ∷ 0x2E ∷ 0x01 ∷ 0x11 ∷ 0x01 ∷ 0x12 ∷ 0x0F ∷ 0x00 ∷ 0x00 ∷ 0x03 ∷ 0x34 ∷ 0x00 ∷ 0x03 ∷ 0x0E ∷ 0x49 ∷ 0x10 ∷ 0x02 ∷ 0x17 ∷ 0x00 ∷ 0x00 ∷ 0x00 ∷ []); relocations = [] }
+    record { name = codes ".debug_abbrev"; body = synthetic_abbreviations ++ (0x01 ∷ 0x11 ∷ 0x01 ∷ 0x10 ∷ 0x17 ∷ 0x00 ∷ 0x00 ∷ 0x02 ∷ 0x2E ∷ 0x01 ∷ 0x11 ∷ 0x01 ∷ 0x12 ∷ 0x0F ∷ 0x00 ∷ 0x00 ∷ 0x03 ∷ 0x34 ∷ 0x00 ∷ 0x03 ∷ 0x0E ∷ 0x49 ∷ 0x10 ∷ 0x02 ∷ 0x17 ∷ 0x00 ∷ 0x00 ∷ 0x00 ∷ []); relocations = [] }
     ∷ record {
       name = codes ".debug_info";
-      body = own_info ++ (0x25 ∷ 0x00 ∷ 0x00 ∷ 0x00 ∷ 0x04 ∷ 0x00 ∷ 0x44 ∷ 0x00 ∷ 0x00 ∷ 0x00 ∷ 0x08 ∷ content_out);
-      relocations = own_relocations ++ (
+      body = synthetic_info ++ (0x25 ∷ 0x00 ∷ 0x00 ∷ 0x00 ∷ 0x04 ∷ 0x00 ∷ 0x44 ∷ 0x00 ∷ 0x00 ∷ 0x00 ∷ 0x08 ∷ content_out);
+      relocations = synthetic_relocations ++ (
           to_section 83 (codes ".debug_abbrev") 68
           ∷ to_section 89 (codes ".debug_line") 0
           ∷ record { offset = 94; size = 8; target = function 0; addend = pos 0 }
@@ -58,7 +58,7 @@ output_small =
           record { offset = 40; size = 8; target = function 0; addend = pos 0 } ∷ [];
     }
     ∷ record { name = codes ".debug_loc"; body = empty_list; relocations = [] }
-    ∷ record { name = codes ".debug_str"; body = own_texts ++ codes "__vmctx" ++ 0x00 ∷ []; relocations = [] } ∷ []
+    ∷ record { name = codes ".debug_str"; body = synthetic_texts ++ codes "__vmctx" ++ 0x00 ∷ []; relocations = [] } ∷ []
 
 abbrev pub module_small : Module
 module_small = record { sections = sections_small; functions = function_small ∷ []; told = told_small; file = file_small_told; compressed = None }
@@ -69,18 +69,18 @@ compilation_small = record { order = Little; pointer_bytes = 8; modules = module
 abbrev pub unit_small : Unit
 unit_small = record { header = header_small; entries = record { offset = 11; depth = 0; tag = 0x11; attributes = (0x10, line_reference 0) ∷ [] } ∷ record { offset = 16; depth = 1; tag = 0x2E; attributes = (0x11, address (Constant 2)) ∷ (0x12, constant 0x06 11) ∷ [] } ∷ [] }
 
--- ---- the module's own unit, read again
+-- ---- the module's synthetic unit, read again
 
-abbrev pub own_header : UnitHeader
-own_header = record { offset = 0; end = 77; version = 4; address_size = 8; unit_type = 1; abbreviations = 0; dwo_id = None; content = at_place 11 own_content }
+abbrev pub synthetic_header : UnitHeader
+synthetic_header = record { offset = 0; end = 77; version = 4; address_size = 8; unit_type = 1; abbreviations = 0; dwo_id = None; content = at_place 11 synthetic_content }
 
 -- a text elsewhere
 abbrev a_text : ℕ → Value
 a_text offset = text_reference 0x0E offset
 
-abbrev pub own_unit_out : Unit
-own_unit_out = record {
-  header = own_header;
+abbrev pub synthetic_unit_out : Unit
+synthetic_unit_out = record {
+  header = synthetic_header;
   entries =
       record { offset = 11; depth = 0; tag = 0x11; attributes = (0x03, a_text 0) ∷ (0x25, a_text 28) ∷ (0x13, constant 0x05 29) ∷ [] }
       ∷ record { offset = 22; depth = 1; tag = 0x24; attributes = (0x03, a_text 37) ∷ (0x3E, constant 0x0B 7) ∷ (0x0B, constant 0x0B 1) ∷ [] }
@@ -111,15 +111,15 @@ pub carried-small : carried_units compilation_small ≡ record { module_of = mod
 unfolding drafts_on_literals
 carried-small = refl
 
-pub output-read : units (output_sections Little output_small) ≡ record { items = own_unit_out ∷ unit_out ∷ []; fault = None }
+pub output-read : units (output_sections Little output_small) ≡ record { items = synthetic_unit_out ∷ unit_out ∷ []; fault = None }
 unfolding drafts_on_literals
 output-read = refl
 
 abbrev pub image_small : Segment
 image_small = record { start = Symbol 0 (pos 0); rows = at_line 0 2 ∷ at_line 15 3 ∷ []; end = Some 30 }
 
--- the module's own unit has no lines
-pub no_lines-read : table_of_unit (output_sections Little output_small) own_unit_out ≡ Ok None
+-- the module's synthetic unit has no lines
+pub no_lines-read : table_of_unit (output_sections Little output_small) synthetic_unit_out ≡ Ok None
 unfolding drafts_on_literals
 no_lines-read = refl
 
@@ -183,7 +183,7 @@ whole-small zero d h = refl
 whole-small (suc k) d h = absurd (omega arith)
 
 -- the units of the output have the lines of those of the small module
-pub lines-small : AllZip (HasLines (output_sections Little output_small)) (module_units compilation_small) (own_unit_out ∷ unit_out ∷ [])
+pub lines-small : AllZip (HasLines (output_sections Little output_small)) (module_units compilation_small) (synthetic_unit_out ∷ unit_out ∷ [])
 unfolding drafts_on_literals
 lines-small = (
   no_lines-read,

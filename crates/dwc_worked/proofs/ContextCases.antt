@@ -9,7 +9,7 @@ use Rattle.dwc_rules.specs.Kept.{Placed}
 use Rattle.dwc_native.specs.Compiled.{Place, in_register, at_frame_offset, LabelRange, Memory, no_memory, defined}
 use Rattle.dwc_native.specs.Runs.{interval_of}
 use Rattle.dwc_dwarf.specs.Trees.{Location, text, locations}
-use Rattle.dwc_rules.specs.Drafts.{own_entry, done, goes_to, Draft}
+use Rattle.dwc_rules.specs.Drafts.{synthetic_entry, done, goes_to, Draft}
 use Rattle.dwc_native.specs.Parts.{context_label}
 use Rattle.dwc_native.specs.BuiltExpressions.{BuildRefusal, bad_label_range, unmapped_register}
 use Rattle.dwc_rules.specs.LocationRules.{ExpressionSource}
@@ -51,9 +51,9 @@ source_with context memory = record {
 abbrev range : Place → ℕ → ℕ → LabelRange
 range place start end = record { place = place; start = start; end = end }
 
--- the variable at a depth, whose type is at a place in the own unit, and where it lies
+-- the variable at a depth, whose type is at a place in the synthetic unit, and where it lies
 abbrev variable_at : ℕ → ℕ → List Location → Draft
-variable_at depth pointer located = record { depth = depth; tag = 0x34; origin = None; attributes = (0x03, done (text (codes "__vmctx"))) ∷ (0x49, goes_to (own_entry pointer)) ∷ (0x02, done (locations located)) ∷ [] }
+variable_at depth pointer located = record { depth = depth; tag = 0x34; origin = None; attributes = (0x03, done (text (codes "__vmctx"))) ∷ (0x49, goes_to (synthetic_entry pointer)) ∷ (0x02, done (locations located)) ∷ [] }
 
 abbrev lies : ℕ → ℕ → List ℕ → Location
 lies start end bytes = record { over = interval_of 0 (start, end); bytes = bytes }

@@ -4,8 +4,8 @@ use Rattle.std.specs.Int.{int_wrap}
 use Rattle.std.specs.Str.{is_utf8, chars}
 use lib.Utf8.{encode}
 use Rattle.std.specs.Fmt.{digits}
-use Rattle.dwc_carried.specs.ListedFunctions.{listed_functions}
-use Rattle.dwc_carried.specs.SimulatedUnit.{label_located, simulated_unit, simulated_refusals}
+use Rattle.dwc_carried.specs.SimulatedFunctions.{simulated_functions}
+use Rattle.dwc_carried.specs.SimulatedUnit.{label_locations, simulated_unit, simulated_refusals}
 use Rattle.dwc_worked.proofs.OnLiterals.{lines_on_literals}
 use Rattle.dwc_dwarf.specs.Texts.{text_elsewhere, text_named, path_text}
 use Rattle.dwc_dwarf.specs.Indexed.{root_offsets, offset_of_root, index_base, address_from, address_named, texts_of_unit}
@@ -31,7 +31,7 @@ use Rattle.dwc_rules.specs.LocationRules.{frame_at, in_force_at, expression_beco
 use Rattle.dwc_rules.specs.EntryRules.{named_faults}
 use Rattle.dwc_worked.proofs.OnExpressions.{attributes_on_literals}
 use Rattle.dwc_rules.specs.DraftForests.{forest}
-use Rattle.dwc_rules.specs.OwnUnits.{own_unit}
+use Rattle.dwc_rules.specs.SyntheticUnit.{synthetic_unit}
 use Rattle.dwc_rules.specs.TypeNames.{name_along, type_name}
 use Rattle.dwc_rules.specs.Wrappers.{wrapper_refusals, entries_made}
 use Rattle.dwc_rules.specs.ObjectPointers.{is_object_pointer, pointers_changed}
@@ -54,5 +54,5 @@ unfolding lines_on_literals is_utf8 chars encode text_elsewhere text_named targe
 wrappers_on_literals = 0
 
 unfoldable pub drafts_on_literals : ℕ
-unfolding digits listed_functions label_located simulated_unit simulated_refusals wrappers_on_literals ranges_given_on_literals attributes_on_literals path_text root_offsets offset_of_root index_base address_from address_named texts_of_unit entry_begun_at kept_with kept_module value_becomes bound_becomes attribute_becomes attributes_become attributes_made entry_refusals source_of carried_drafts info_faults kept_refusals module_refusals own_unit list_named pair_at entry_of_kind_at kind_and_entry_at raw_entry_at raw_ranges first_base_of list_source list_shows_code is_required named_faults locations_of_value locations_at raw_locations raw_location_at lineage scope_in_force frame_in_force frame_at in_force_at attribute_ends entry_ends value_ends expression_becomes expression_refused locations_become forest locations_read value_said unit_said trees
+unfolding digits simulated_functions label_locations simulated_unit simulated_refusals wrappers_on_literals ranges_given_on_literals attributes_on_literals path_text root_offsets offset_of_root index_base address_from address_named texts_of_unit entry_begun_at kept_with kept_module value_becomes bound_becomes attribute_becomes attributes_become attributes_made entry_refusals source_of carried_drafts info_faults kept_refusals module_refusals synthetic_unit list_named pair_at entry_of_kind_at kind_and_entry_at raw_entry_at raw_ranges first_base_of list_source list_shows_code is_required named_faults locations_of_value locations_at raw_locations raw_location_at lineage scope_in_force frame_in_force frame_at in_force_at attribute_ends entry_ends value_ends expression_becomes expression_refused locations_become forest locations_read value_said unit_said trees
 drafts_on_literals = 0

@@ -5,7 +5,7 @@ use Rattle.std.specs.List.{list_all}
 use Rattle.std.specs.FinMap as finite
 use Rattle.dwc_native.specs.Compiled.{no_memory}
 use Rattle.dwc_base.specs.Outputs.{OutputSection, function, section}
-use Rattle.dwc_clif.specs.declared.architecture.Architecture.TheVariants.{X86_64}
+use Rattle.dwc_isa.specs.declared.architecture.Architecture.TheVariants.{X86_64}
 use Rattle.dwc_map.specs.MapFile.{MapFile, map_of_bytes}
 use Rattle.dwc_cli.specs.Printed.{printed, line_feed, is_plain}
 use Rattle.dwc_worked.proofs.WholeOutput.{output_whole}
@@ -47,7 +47,7 @@ function-missing : map_of_bytes (2 ∷ []) map_bytes_small ≡ None
 unfolding map_on_literals
 function-missing = refl
 
--- what is printed of the output for it: its own unit, behind that the carried one with its lines, and last the one that lists no function
+-- what is printed of the output for it: its synthetic unit, behind that the carried one with its lines, and last the one that lists no function
 printed-small : printed output_whole ≡
     (codes "section .debug_abbrev 125" ++ line_feed)
     ++ (codes "011101030e250e13050000022400030e3e0b0b0b0000030f00030e49130000041301030e0000052e016e0e030e00000605004913340c0000072400030e0b0b3e0b00000001110110170000022e011101120f0000033400030e49100217000000011101250e1305030e10171b0e55170000022400030e0b0b3e0b000000" ++ line_feed)

@@ -8,7 +8,7 @@ use Rattle.dwc_worked.proofs.OnLiterals.{lines_on_literals}
 use Rattle.dwc_worked.proofs.OnLists.{lists_on_literals}
 use Rattle.dwc_worked.proofs.Readings.{three_sections}
 use Rattle.dwc_worked.proofs.CarriedSmall.{output_small}
-use Rattle.dwc_worked.proofs.OwnTrees.{to_section, own_relocations}
+use Rattle.dwc_worked.proofs.SyntheticTrees.{to_section, synthetic_relocations}
 use Rattle.dwc_base.specs.declared.records.Endian.TheVariants.{Little}
 use Rattle.dwc_base.specs.declared.records.Address.TheVariants.{Constant, Symbol}
 use Rattle.dwc_base.specs.declared.section_name.SectionName.TheVariants.{Abbrev, Info, Line, LineStr, Loc, Loclists, Ranges, Rnglists, Str}
@@ -16,9 +16,9 @@ use Rattle.dwc_base.specs.Sections.{Sections}
 use Rattle.dwc_base.specs.Outputs.{OutputRelocation, OutputSection, function, section, output_sections}
 use Rattle.dwc_output.specs.Fields.{Field, an_address, offset_in, fields_at, fields_of_entry, fields_of_instructions, fields_of_line_table, fields_of_named, fields_of_section, relocations_of_fields, IsRelocated, AreRelocated}
 
--- the fields of a module's own unit: its declarations, and a text for each name
-abbrev own_fields : List Field
-own_fields =
+-- the fields of a module's synthetic unit: its declarations, and a text for each name
+abbrev synthetic_fields : List Field
+synthetic_fields =
     record { offset = 6; size = 4; held = offset_in Abbrev 0 }
     ∷ record { offset = 12; size = 4; held = offset_in Str 0 }
     ∷ record { offset = 16; size = 4; held = offset_in Str 28 }
@@ -32,7 +32,7 @@ own_fields =
 
 -- the fields of an output, its line table's in a section of its own
 fields-info : fields_of_section (output_sections Little output_small) Info ≡
-    own_fields ++ (record { offset = 83; size = 4; held = offset_in Abbrev 68 } ∷ record { offset = 89; size = 4; held = offset_in Line 0 } ∷ record { offset = 94; size = 8; held = an_address (Symbol 0 (pos 0)) }
+    synthetic_fields ++ (record { offset = 83; size = 4; held = offset_in Abbrev 68 } ∷ record { offset = 89; size = 4; held = offset_in Line 0 } ∷ record { offset = 94; size = 8; held = an_address (Symbol 0 (pos 0)) }
     ∷ record { offset = 104; size = 4; held = offset_in Str 108 } ∷ record { offset = 108; size = 4; held = offset_in Info 60 } ∷ record { offset = 112; size = 4; held = offset_in Loc 0 } ∷ [])
 unfolding lines_on_literals fields_of_section fields_at fields_of_entry
 fields-info = refl
@@ -89,7 +89,7 @@ relocations-forms = refl
 
 -- the small output has the relocations of its fields
 abbrev relocations_small : List OutputRelocation
-relocations_small = own_relocations ++ (to_section 83 (codes ".debug_abbrev") 68 ∷ to_section 89 (codes ".debug_line") 0 ∷ record { offset = 94; size = 8; target = function 0; addend = pos 0 }
+relocations_small = synthetic_relocations ++ (to_section 83 (codes ".debug_abbrev") 68 ∷ to_section 89 (codes ".debug_line") 0 ∷ record { offset = 94; size = 8; target = function 0; addend = pos 0 }
     ∷ to_section 104 (codes ".debug_str") 108 ∷ to_section 108 (codes ".debug_info") 60 ∷ to_section 112 (codes ".debug_loc") 0 ∷ [])
 
 relocations-info : relocations_of_fields (fields_of_section (output_sections Little output_small) Info) ≡ relocations_small

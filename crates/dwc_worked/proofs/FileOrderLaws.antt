@@ -9,11 +9,11 @@ use Rattle.dwc_rules.specs.Kept.{Placed}
 use Rattle.dwc_native.specs.Compiled.{Memory, no_memory, defined, imported}
 use Rattle.dwc_dwarf.specs.Trees.{Location}
 use Rattle.dwc_rules.specs.Drafts.{Draft}
-use Rattle.dwc_rules.specs.OwnUnits.{own_unit}
+use Rattle.dwc_rules.specs.SyntheticUnit.{synthetic_unit}
 use Rattle.dwc_rules.specs.Clones.{UnitSource}
 use Rattle.dwc_native.specs.BuiltExpressions.{BuildRefusal}
 use Rattle.dwc_rules.specs.LocationRules.{ExpressionSource}
-use Rattle.dwc_rules.specs.ContextVariable.{context_over, context_pointer, context_variable, context_entries, located_or_none}
+use Rattle.dwc_rules.specs.ContextVariable.{context_over, context_pointer, context_variable, context_entries, locations_or_none}
 use Rattle.dwc_rules.specs.EntryRules.{wrappers_of}
 use Rattle.dwc_rules.specs.CarriedDrafts.{draft_told, entry_made, unit_drafts}
 use Rattle.dwc_rules.specs.Wrappers.{WrapperSource, is_wrapped, wrapper, wrapper_types, inner, outer, with_wrapper, entries_made}
@@ -142,7 +142,7 @@ entries_made-in_order s clone root es good plain order = go (is_wrapped root) pl
 with-context : (c : ExpressionSource) (e : Placed) (d : Draft) → d.depth ≡ e.entry.depth → IsTrue (are_within e.entry.depth (depths (d ∷ context_entries c e)))
 with-context c e d same = both_true (eq-eqb d.depth e.entry.depth same) (to-test e.entry.depth d.depth (depths (context_entries c e)) (go (context_over c e)))
   where
-    go : (o : Option (Result (List Location) BuildRefusal)) → GoOn e.entry.depth d.depth (depths (option_to_list (option_map (λ located. context_variable (suc e.entry.depth) (context_pointer c) (located_or_none located)) o)))
+    go : (o : Option (Result (List Location) BuildRefusal)) → GoOn e.entry.depth d.depth (depths (option_to_list (option_map (λ located. context_variable (suc e.entry.depth) (context_pointer c) (locations_or_none located)) o)))
     go None = tt
     go (Some located) = (omega arith, omega (arith, same), tt)
 
@@ -151,8 +151,8 @@ pub unit-in_order : (c : ExpressionSource) (s : UnitSource) (big_endian : Bool) 
 unit-in_order c s big_endian root es plain order = entries_made-in_order (wrappers_of c) (entry_made c s big_endian) root es (λ e. with-context c e (draft_told c s big_endian e) refl) plain order
 
 -- the unit of a module is in file order
-pub own-in_order : (set_memory : List ℕ) (m : Memory) → IsInFileOrder (own_unit set_memory m)
-unfolding own_unit
-own-in_order set_memory no_memory = refl
-own-in_order set_memory (defined offset) = refl
-own-in_order set_memory (imported a b) = refl
+pub synthetic-in_order : (set_memory : List ℕ) (m : Memory) → IsInFileOrder (synthetic_unit set_memory m)
+unfolding synthetic_unit
+synthetic-in_order set_memory no_memory = refl
+synthetic-in_order set_memory (defined offset) = refl
+synthetic-in_order set_memory (imported a b) = refl

@@ -1,5 +1,5 @@
--- The module without sections of DWARF where the frame of its function is told, from its bytes to the printed text: the module's own unit, the
--- last one, and the frames behind them. A text without these is no answer.
+-- The module without sections of DWARF where the frame of its function is told, from its bytes to the printed text: the module's synthetic
+-- unit, the simulated one, and the frames behind them. A text without these is no answer.
 use Rattle.std.proofs.Common.{◌≡◌, ℕ, zero, suc, pos, arith, List, [], ◌∷◌, ◌++◌, length, Some, None, refl, sym, ap, subst, ◌∙◌}
 use Rattle.std.specs.Prelude.{Option, All, codes, true}
 use Rattle.std.specs.List.{list_all}

@@ -28,8 +28,8 @@ pub mod WidestCases
 pub mod OutputSmall
 pub mod DraftsOnLiterals
 pub mod TreeInputs
-pub mod OwnTrees
-pub mod OwnUnitCases
+pub mod SyntheticTrees
+pub mod SyntheticUnitCases
 pub mod WrapperInputs
 pub mod WrapperCases
 pub mod WrapperNameCases
@@ -82,3 +82,4 @@ pub mod Answers
 pub mod RefusedPaths
 pub mod WholeRun
 pub mod DeviceCases
+pub mod SplitSectionCases

@@ -25,20 +25,20 @@ use Rattle.dwc_rules.specs.ScopesCarried.{scope_to_keep, CarriesScope, ScopesCar
 use Rattle.dwc_native.specs.ScopesKept.{IsInOneOf, cover_byte}
 use Rattle.dwc_dwarf.specs.Trees.{Location, TreeEntry, TreeValue, locations}
 use Rattle.dwc_native.specs.Runs.{interval_of}
-use Rattle.dwc_worked.proofs.OwnTrees.{context_entry}
+use Rattle.dwc_worked.proofs.SyntheticTrees.{context_entry}
 use Rattle.dwc_dwarf.specs.Values.{Value, is_location_name}
 use Rattle.dwc_rules.proofs.ForestLaws.{Each, none_is}
 use Rattle.dwc_base.proofs.InLists.{IsIn, contains-in}
 use Rattle.dwc_worked.proofs.LineTables.{function_small}
 use Rattle.dwc_worked.proofs.Readings.{sections_small, header_small}
-use Rattle.dwc_worked.proofs.CarriedSmall.{module_small, unit_small, own_unit_out, unit_out, output-read, output_small, compilation_small}
+use Rattle.dwc_worked.proofs.CarriedSmall.{module_small, unit_small, synthetic_unit_out, unit_out, output-read, output_small, compilation_small}
 use Rattle.dwc_worked.proofs.TreesSmall.{tree_small, trees_small}
 
 abbrev pub HasForm : Unit → Type 0
 HasForm u = (u.header.version ≡ 4) × (u.header.address_size ≡ 8)
 
 pub form-small : HaveTargetForm 8 (units (output_sections Little output_small)).items
-form-small = rw output-read (All-cons HasForm own_unit_out (unit_out ∷ []) (refl, refl) (All-cons HasForm unit_out [] (refl, refl) (All-nil HasForm)))
+form-small = rw output-read (All-cons HasForm synthetic_unit_out (unit_out ∷ []) (refl, refl) (All-cons HasForm unit_out [] (refl, refl) (All-nil HasForm)))
 
 abbrev pub Differ : OutputSection → OutputSection → Type 0
 Differ x y = x.name ≢ y.name
@@ -171,13 +171,13 @@ context-small = record { below = refl; tag = refl; name = refl; located = []; li
 abbrev whole_function : List Location
 whole_function = record { over = interval_of 0 (0, 30); bytes = 0x5E ∷ [] } ∷ []
 
-abbrev located_in : Option TreeValue → List Location
-located_in (Some (locations ls)) = ls
-located_in _ = []
+abbrev locations_of : Option TreeValue → List Location
+locations_of (Some (locations ls)) = ls
+locations_of _ = []
 
 not_context-small : IsContext (function_small ∷ []) (Some frame_small) 2 ((2, 13) ∷ []) (context_entry 2 0 6 whole_function) → ⊥
 not_context-small h =
-    let covered : cover_byte (map (λ l. l.over) h.located) 0 0 ≡ true = subst (λ ls. cover_byte (map (λ l. l.over) ls) 0 0 ≡ true) (ap located_in h.lies) refl in
+    let covered : cover_byte (map (λ l. l.over) h.located) 0 0 ≡ true = subst (λ ls. cover_byte (map (λ l. l.over) ls) 0 0 ≡ true) (ap locations_of h.lies) refl in
     true≢false (sym (h.says.have_places 0 0 covered) ∙ no-place 0 0)
 
 -- what stands behind an entry of the small tree, for an entry of the small unit

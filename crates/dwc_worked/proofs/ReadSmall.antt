@@ -6,10 +6,10 @@ use Rattle.dwc_dwarf.specs.Entries.{Entry}
 use Rattle.dwc_dwarf.specs.Values.{line_reference}
 use Rattle.dwc_dwarf.specs.LineRows.{segments}
 use Rattle.dwc_dwarf.specs.ReadUnits.{table_of_unit, units}
-use Rattle.dwc_write.specs.SpelledLines.{read_segment, FitsName, FitsFile, FitsRow, FitsSequence}
+use Rattle.dwc_unit.specs.SpelledLines.{read_segment, FitsName, FitsFile, FitsRow, FitsSequence}
 use Rattle.dwc_write.specs.SpelledSections.{PlacedTable, read_unit, WrittenUnit, tables_bytes, info_bytes, info_fields, read_units, WrittenTable, lines_bytes, lines_fields, FitsUnit, FitsTable, placed_tables, read_table}
 use Rattle.std.proofs.lemmas.List.Elements.{All-head, All-cons, All-nil, All-from_recursion}
-use Rattle.dwc_write.proofs.ReadLines.{line-table-segments}
+use Rattle.dwc_unit.proofs.ReadLines.{line-table-segments}
 use Rattle.dwc_write.proofs.ReadSections.{IsReadAt, unit-table-read, units-read, lines-read}
 use Rattle.std.specs.List.{All, AllByRecursion}
 use Rattle.dwc_base.specs.declared.records.Endian.TheVariants.{Little}
@@ -19,18 +19,18 @@ use Rattle.dwc_base.specs.declared.section_name.SectionName.TheVariants.{Abbrev,
 use Rattle.dwc_base.specs.Abbreviations.{AttributeSpec, Declaration}
 use Rattle.dwc_base.specs.Outputs.{output_sections}
 use Rattle.dwc_base.specs.NumberBytes.{uleb_bytes, uleb_bytes_within, sleb_bytes, sleb_bytes_from_0}
-use Rattle.dwc_write.specs.SpelledUnits.{Written, as_addr, as_data1, as_data2, as_udata, as_flag, as_strp, as_ref4, as_ref_addr, as_sec_offset, WrittenAttribute, WrittenEntry, shaped, FitsEntry, FitsWritten}
-use Rattle.dwc_write.specs.SpelledTables.{FitsSpec, FitsDeclaration}
-use Rattle.dwc_write.specs.SpelledAddresses.{relocations_of}
+use Rattle.dwc_unit.specs.SpelledUnits.{Written, as_addr, as_data1, as_data2, as_udata, as_flag, as_strp, as_ref4, as_ref_addr, as_sec_offset, WrittenAttribute, WrittenEntry, shaped, FitsEntry, FitsWritten}
+use Rattle.dwc_unit.specs.SpelledTables.{FitsSpec, FitsDeclaration}
+use Rattle.dwc_section.specs.SpelledAddresses.{relocations_of}
 use Rattle.dwc_worked.proofs.CarriedSmall.{output_small}
 
--- ---- the module's own unit
+-- ---- the module's synthetic unit
 
 abbrev named : ℕ → Written → WrittenAttribute
 named name value = record { name = name; value = value }
 
-abbrev pub own_entries : List WrittenEntry
-own_entries =
+abbrev pub synthetic_entries : List WrittenEntry
+synthetic_entries =
     record { depth = 0; code = 1; tag = 0x11; attributes = named 0x03 (as_strp 0) ∷ named 0x25 (as_strp 28) ∷ named 0x13 (as_data2 29) ∷ [] }
     ∷ record { depth = 1; code = 2; tag = 0x24; attributes = named 0x03 (as_strp 37) ∷ named 0x3E (as_data1 7) ∷ named 0x0B (as_data1 1) ∷ [] }
     ∷ record { depth = 1; code = 3; tag = 0x0F; attributes = named 0x03 (as_strp 40) ∷ named 0x49 (as_ref4 22) ∷ [] }
@@ -43,8 +43,8 @@ own_entries =
 abbrev form_of : ℕ → ℕ → AttributeSpec
 form_of name form = record { name = name; form = form; implicit = pos 0 }
 
-abbrev pub own_table : List Declaration
-own_table =
+abbrev pub synthetic_table : List Declaration
+synthetic_table =
     record { code = 1; tag = 0x11; has_children = true; attributes = form_of 0x03 0x0E ∷ form_of 0x25 0x0E ∷ form_of 0x13 0x05 ∷ [] }
     ∷ record { code = 2; tag = 0x24; has_children = false; attributes = form_of 0x03 0x0E ∷ form_of 0x3E 0x0B ∷ form_of 0x0B 0x0B ∷ [] }
     ∷ record { code = 3; tag = 0x0F; has_children = false; attributes = form_of 0x03 0x0E ∷ form_of 0x49 0x13 ∷ [] }
@@ -53,8 +53,8 @@ own_table =
     ∷ record { code = 6; tag = 0x05; has_children = false; attributes = form_of 0x49 0x13 ∷ form_of 0x34 0x0C ∷ [] }
     ∷ record { code = 7; tag = 0x24; has_children = false; attributes = form_of 0x03 0x0E ∷ form_of 0x0B 0x0B ∷ form_of 0x3E 0x0B ∷ [] } ∷ []
 
-abbrev pub own_written : WrittenUnit
-own_written = record { table_offset = 0; table = own_table; entries = own_entries }
+abbrev pub synthetic_written : WrittenUnit
+synthetic_written = record { table_offset = 0; table = synthetic_table; entries = synthetic_entries }
 
 -- ---- the carried unit
 
@@ -64,7 +64,7 @@ root_written = record { depth = 0; code = 1; tag = 0x11; attributes = named 0x10
 abbrev pub function_written : WrittenEntry
 function_written = record { depth = 1; code = 2; tag = 0x2E; attributes = named 0x11 (as_addr (Symbol 0 (pos 0))) ∷ named 0x12 (as_udata 30) ∷ [] }
 
--- the variable of the context, whose type is in the module's own unit
+-- the variable of the context, whose type is in the module's synthetic unit
 abbrev pub context_written : WrittenEntry
 context_written = record { depth = 2; code = 3; tag = 0x34; attributes = named 0x03 (as_strp 108) ∷ named 0x49 (as_ref_addr 60) ∷ named 0x02 (as_sec_offset Loc 0) ∷ [] }
 
@@ -78,7 +78,7 @@ abbrev pub unit_written : WrittenUnit
 unit_written = record { table_offset = 68; table = table_written; entries = root_written ∷ function_written ∷ context_written ∷ [] }
 
 abbrev pub units_written : List WrittenUnit
-units_written = own_written ∷ unit_written ∷ []
+units_written = synthetic_written ∷ unit_written ∷ []
 
 -- ---- lines
 
@@ -129,10 +129,10 @@ entries-fit = All-from_recursion (FitsEntry table_written 8) (shaped unit_writte
 )
 
 abbrev attributes_at : ℕ → List WrittenAttribute
-attributes_at place = (get_or own_entries place root_written).attributes
+attributes_at place = (get_or synthetic_entries place root_written).attributes
 
-own_entries-fit : All (FitsEntry own_table 8) (shaped own_entries)
-own_entries-fit = All-from_recursion (FitsEntry own_table 8) (shaped own_entries) (
+synthetic_entries-fit : All (FitsEntry synthetic_table 8) (shaped synthetic_entries)
+synthetic_entries-fit = All-from_recursion (FitsEntry synthetic_table 8) (shaped synthetic_entries) (
   record { some = lit< tt; code = lit< tt; declared = refl; values = values-fit (attributes_at 0) (lit< tt, (lit< tt, (lit< tt, tt))) },
   (
     record { some = lit< tt; code = lit< tt; declared = refl; values = values-fit (attributes_at 1) (lit< tt, (lit< tt, (lit< tt, tt))) },
@@ -172,14 +172,14 @@ table-fits =
       ),
     )
 
-own_table-fits : All FitsDeclaration own_table
-own_table-fits =
+synthetic_table-fits : All FitsDeclaration synthetic_table
+synthetic_table-fits =
     let text : (name : ℕ) → name ≤ 65535 → FitsSpec (form_of name 0x0E) = λ name small. spec-fits name 0x0E (lit< tt) small (lit< tt) in
     let byte : (name : ℕ) → name ≤ 65535 → FitsSpec (form_of name 0x0B) = λ name small. spec-fits name 0x0B (lit< tt) small (lit< tt) in
     let goal : FitsSpec (form_of 0x49 0x13) = spec-fits 0x49 0x13 (lit< tt) (lit≤ tt) (lit< tt) in
     let language = spec-fits 0x13 0x05 (lit< tt) (lit≤ tt) (lit< tt) in
     let artificial = spec-fits 0x34 0x0C (lit< tt) (lit≤ tt) (lit< tt) in
-    All-from_recursion FitsDeclaration own_table (
+    All-from_recursion FitsDeclaration synthetic_table (
       declared-fits 1 0x11 true _ (lit< tt) (lit< tt) (lit≤ tt) (text 0x03 (lit≤ tt), (text 0x25 (lit≤ tt), (language, tt))),
       (
         declared-fits 2 0x24 false _ (lit< tt) (lit< tt) (lit≤ tt) (text 0x03 (lit≤ tt), (byte 0x3E (lit≤ tt), (byte 0x0B (lit≤ tt), tt))),
@@ -199,13 +199,13 @@ own_table-fits =
       ),
     )
 
-own-fits : FitsUnit Little 8 own_written
+synthetic-fits : FitsUnit Little 8 synthetic_written
 unfolding uleb_bytes uleb_bytes_within
-own-fits = record {
+synthetic-fits = record {
   offset = lit< tt;
   short = lit< tt;
-  table = own_table-fits;
-  entries = own_entries-fit;
+  table = synthetic_table-fits;
+  entries = synthetic_entries-fit;
   tree = (refl, (lit< tt, lit≤ tt, (lit< tt, lit≤ tt, (lit< tt, lit≤ tt, (lit< tt, lit≤ tt, (lit< tt, lit≤ tt, (lit< tt, lit≤ tt, (lit< tt, lit≤ tt, tt))))))));
 }
 
@@ -217,7 +217,7 @@ unit-fits = record { offset = lit< tt; short = lit< tt; table = table-fits; entr
 pub small-units : units (output_sections Little output_small) ≡ record { items = read_units Little 8 0 units_written; fault = None }
 unfolding uleb_bytes uleb_bytes_within
 small-units =
-    let fits = All-cons (FitsUnit Little 8) own_written (unit_written ∷ []) own-fits (All-cons (FitsUnit Little 8) unit_written [] unit-fits (All-nil (FitsUnit Little 8))) in
+    let fits = All-cons (FitsUnit Little 8) synthetic_written (unit_written ∷ []) synthetic-fits (All-cons (FitsUnit Little 8) unit_written [] unit-fits (All-nil (FitsUnit Little 8))) in
     units-read (output_sections Little output_small) 8 units_written (inr refl) fits (refl, (refl, tt)) abbrev-bytes info-bytes info-relocations
 
 row-fits : (offset line : ℕ) → offset < 2 ^ 32 → line < 2 ^ 32

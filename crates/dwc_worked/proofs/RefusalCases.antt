@@ -231,7 +231,7 @@ second_without_symbol : refusal_framed (module_framed (function_small ∷ next_f
 unfolding drafts_on_literals
 second_without_symbol = refl
 
--- ---- the path of the last unit
+-- ---- the path of the simulated unit
 
 -- a module whose path is given
 abbrev with_path : Module → Module
@@ -255,7 +255,7 @@ path_before_frame : refusal_framed (with_path (small_framed falling) ∷ []) ≡
 unfolding drafts_on_literals
 path_before_frame = refl
 
--- ---- the variables of the last unit
+-- ---- the variables of the simulated unit
 
 -- the edges of its rules with register 7, which has no number, for one of them
 abbrev with_register : Module

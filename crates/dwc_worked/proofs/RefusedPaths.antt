@@ -1,4 +1,4 @@
--- Paths of the last unit that name no file, from the files of an input: what is refused of them, and answers that the clauses of status 19
+-- Paths of the simulated unit that name no file, from the files of an input: what is refused of them, and answers that the clauses of status 19
 -- refuse.
 use Rattle.std.proofs.Common.{◌≡◌, ℕ, List, ◌∷◌, [], ◌++◌, Some, false, refl, ap, ◌∙◌, arith}
 use Rattle.std.specs.Prelude.{Option, codes}

@@ -12,7 +12,7 @@ use Rattle.dwc_native.specs.Compiled.{LabelRange, Memory, in_register}
 use Rattle.dwc_native.specs.Parts.{context_label}
 use Rattle.dwc_dwarf.specs.Trees.{Interval, Location, TreeValue, TreeEntry, Tree, address, constant, text, line_table, ranges, locations}
 use Rattle.dwc_native.specs.Runs.{interval_of}
-use Rattle.dwc_base.specs.declared.wasm.ValType.TheVariants.{I32, I64, F32, F64, Other}
+use Rattle.dwc_base.specs.declared.translation.ValType.TheVariants.{I32, I64, F32, F64, Other}
 use Rattle.dwc_base.specs.WasmFunctions.{LocalTypes, no_local_types}
 use Rattle.dwc_worked.proofs.DraftsOnLiterals.{drafts_on_literals}
 use Rattle.dwc_worked.proofs.SmallModule.{told_small}

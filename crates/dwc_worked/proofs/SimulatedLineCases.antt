@@ -6,9 +6,9 @@ use Rattle.dwc_dwarf.specs.LineRows.{Row}
 use Rattle.dwc_output.specs.SimulatedLines.{simulated_contents, simulated_row, simulated_segment}
 use Rattle.dwc_base.specs.ToldFiles.{bare_file}
 use Rattle.dwc_native.specs.Functions.{Function}
-use Rattle.dwc_rules.specs.Carried.{Module, WantedUnit, own_unit, carried_unit, listed_unit}
-use Rattle.dwc_carried.specs.LastUnit.{last_wanted, listed_in_files, widest_last}
-use Rattle.dwc_carried.specs.ListedFunctions.{is_begun}
+use Rattle.dwc_rules.specs.Carried.{Module, WantedUnit, synthetic_unit, carried_unit, unit_of_simulated}
+use Rattle.dwc_carried.specs.SimulatedUnitRules.{simulated_wanted, simulated_in_files, widest_simulated}
+use Rattle.dwc_carried.specs.SimulatedFunctions.{is_begun}
 use Rattle.dwc_native.specs.Compiled.{no_memory}
 use Rattle.dwc_worked.proofs.LineTables.{function_small}
 use Rattle.dwc_worked.proofs.SmallModule.{abbreviations_small, info_small, line_small}
@@ -19,7 +19,7 @@ use Rattle.dwc_worked.proofs.SimulatedInputs.{simulated_on_literals, named_small
 abbrev row_at : List ℕ → ℕ → ℕ → Bool → Row
 row_at name offset line prologue_end = record { offset = offset; source = simulated_contents name line prologue_end }
 
--- ---- the small module whose function is listed
+-- ---- the small module whose function is simulated
 
 -- what its rows say: all as a sequence begins, but the line, the discriminator and once the end of the prologue
 contents : simulated_contents (codes "g.wasm") 25 true ≡ record { file = Some (record { directory = None; name = codes "g.wasm" }); line = 25; column = 0; is_stmt = true; basic_block = false; prologue_end = true; epilogue_begin = false; isa = 0; discriminator = 1 }
@@ -46,37 +46,37 @@ bytes-edges = refl
 segment-bare : simulated_segment (codes "m") 20 (a_function (Some 2) 20 20 0 ((0, None) ∷ [])) ≡ record { start = Symbol 2 (pos 0); rows = row_at (codes "m") 0 0 false ∷ []; end = Some 0 }
 segment-bare = refl
 
--- ---- what the last unit's lines are to be
+-- ---- what the simulated unit's lines are to be
 
 -- the name of its file, and its functions
 abbrev lines_of : WantedUnit → Option (List ℕ × List (ℕ × Function))
-lines_of own_unit = None
+lines_of synthetic_unit = None
 lines_of (carried_unit u) = None
-lines_of (listed_unit name translated ms) = Some (name, listed_in_files translated ms)
+lines_of (unit_of_simulated name translated ms) = Some (name, simulated_in_files translated ms)
 
-abbrev last_lines : ℕ → List Module → List (Option (List ℕ × List (ℕ × Function)))
-last_lines next_id ms = map lines_of (last_wanted (is_begun ms) next_id ms)
+abbrev simulated_lines_wanted : ℕ → List Module → List (Option (List ℕ × List (ℕ × Function)))
+simulated_lines_wanted next_id ms = map lines_of (simulated_wanted (is_begun ms) next_id ms)
 
-lines-unlinked : last_lines 0 (named_small (told_with abbreviations_small info_0 line_small) ∷ []) ≡ Some (codes "g.wasm", (20, function_small) ∷ []) ∷ []
+lines-unlinked : simulated_lines_wanted 0 (named_small (told_with abbreviations_small info_0 line_small) ∷ []) ≡ Some (codes "g.wasm", (20, function_small) ∷ []) ∷ []
 unfolding simulated_on_literals
 lines-unlinked = refl
 
-lines-linked : last_lines 0 (named_small (told_with abbreviations_small info_small line_small) ∷ []) ≡ Some (codes "g.wasm", []) ∷ []
+lines-linked : simulated_lines_wanted 0 (named_small (told_with abbreviations_small info_small line_small) ∷ []) ≡ Some (codes "g.wasm", []) ∷ []
 unfolding simulated_on_literals
 lines-linked = refl
 
 -- of two modules each function with the offset of its own file
-lines-two : last_lines 7 (module_edges no_memory abbreviations_small info_small line_small [] ∷ record (named_small (told_with [] [] [])) { functions = a_function (Some 4) 2 9 5 ((0, Some 2) ∷ []) ∷ []; file = bare_file 100 } ∷ [])
+lines-two : simulated_lines_wanted 7 (module_edges no_memory abbreviations_small info_small line_small [] ∷ record (named_small (told_with [] [] [])) { functions = a_function (Some 4) 2 9 5 ((0, Some 2) ∷ []) ∷ []; file = bare_file 100 } ∷ [])
     ≡ Some (codes "m", (20, a_function (Some 2) 20 20 0 ((0, None) ∷ [])) ∷ (20, last_function) ∷ (100, a_function (Some 4) 2 9 5 ((0, Some 2) ∷ [])) ∷ []) ∷ []
 unfolding simulated_on_literals
 lines-two = refl
 
-lines-none : last_lines 0 [] ≡ []
+lines-none : simulated_lines_wanted 0 [] ≡ []
 lines-none = refl
 
 -- ---- how long they can be
 
--- without a listed function a header alone, with one three rows for two sources, and nothing without a module
-widest : map (λ ms. widest_last (is_begun ms) 0 ms) ((named_small (told_with abbreviations_small info_small line_small) ∷ []) ∷ (named_small (told_with abbreviations_small info_0 line_small) ∷ []) ∷ [] ∷ []) ≡ 67 ∷ (67 + (43 + 3 * 82)) ∷ 0 ∷ []
+-- without a simulated function a header alone, with one three rows for two sources, and nothing without a module
+widest : map (λ ms. widest_simulated (is_begun ms) 0 ms) ((named_small (told_with abbreviations_small info_small line_small) ∷ []) ∷ (named_small (told_with abbreviations_small info_0 line_small) ∷ []) ∷ [] ∷ []) ≡ 67 ∷ (67 + (43 + 3 * 82)) ∷ 0 ∷ []
 unfolding simulated_on_literals
 widest = refl

@@ -1,4 +1,4 @@
--- An output for the small module where its function is listed: its bytes say the wanted trees, and the wanted lines; and wrong ones are
+-- An output for the small module where its function is simulated: its bytes say the wanted trees, and the wanted lines; and wrong ones are
 -- refused.
 use Rattle.std.proofs.Common.{◌≡◌, ℕ, pos, List, [], ◌∷◌, ◌++◌, length, map, Some, None, Ok, Result, true, false, refl, ap, arith, lit<}
 use Rattle.std.specs.Prelude.{Option, codes}
@@ -14,10 +14,10 @@ use Rattle.dwc_native.specs.Runs.{interval_of}
 use Rattle.dwc_dwarf.specs.Trees.{Tree}
 use Rattle.dwc_output.specs.TreeReading.{CarriesTrees, ranges_read}
 use Rattle.dwc_dwarf.specs.TreeLaws.{HasTextsOnce, texts_ended}
-use Rattle.dwc_output.specs.SimulatedLines.{simulated_contents, simulated_segment, IsSimulated, CarriesListed}
+use Rattle.dwc_output.specs.SimulatedLines.{simulated_contents, simulated_segment, IsSimulated, CarriesSimulated}
 use Rattle.dwc_worked.proofs.CarriedSmall.{unit_of, table_of}
 use Rattle.dwc_worked.proofs.LineTables.{function_small}
-use Rattle.dwc_worked.proofs.OwnTrees.{own_tree, own_abbreviations, own_info, own_texts, to_section, own_relocations}
+use Rattle.dwc_worked.proofs.SyntheticTrees.{synthetic_tree, synthetic_abbreviations, synthetic_info, synthetic_texts, to_section, synthetic_relocations}
 use Rattle.dwc_worked.proofs.SimulatedInputs.{trees_of, simulated_on_literals, named_small, told_with, simulated_front, simulated_function}
 use Rattle.dwc_worked.proofs.SmallModule.{abbreviations_small, line_small}
 use Rattle.dwc_worked.proofs.Variants.{info_0}
@@ -27,15 +27,15 @@ use Rattle.dwc_worked.proofs.TreeInputs.{a_section}
 -- ---- bytes
 
 -- the declarations of the root, of the types, and of a function without variables
-abbrev abbreviations_listed : List ℕ
-abbreviations_listed =
+abbrev abbreviations_simulated : List ℕ
+abbreviations_simulated =
     0x01 ∷ 0x11 ∷ 0x01 ∷ 0x25 ∷ 0x0E ∷ 0x13 ∷ 0x05 ∷ 0x03 ∷ 0x0E ∷ 0x10 ∷ 0x17 ∷ 0x1B ∷ 0x0E ∷ 0x55 ∷ 0x17 ∷ 0x00 ∷ 0x00
     ∷ 0x02 ∷ 0x24 ∷ 0x00 ∷ 0x03 ∷ 0x0E ∷ 0x0B ∷ 0x0B ∷ 0x3E ∷ 0x0B ∷ 0x00 ∷ 0x00
     ∷ 0x03 ∷ 0x2E ∷ 0x00 ∷ 0x11 ∷ 0x01 ∷ 0x12 ∷ 0x0F ∷ 0x03 ∷ 0x0E ∷ 0x3A ∷ 0x0F ∷ 0x3B ∷ 0x0F ∷ 0x00 ∷ 0x00 ∷ 0x00 ∷ []
 
 -- one line an entry, from 88, 111, 118, 125, 132 and 139 on
-abbrev content_listed : List ℕ
-content_listed =
+abbrev content_simulated : List ℕ
+content_simulated =
     0x01 ∷ 0x1C ∷ 0x00 ∷ 0x00 ∷ 0x00 ∷ 0x1D ∷ 0x00 ∷ 0x6C ∷ 0x00 ∷ 0x00 ∷ 0x00 ∷ 0x00 ∷ 0x00 ∷ 0x00 ∷ 0x00 ∷ 0x73 ∷ 0x00 ∷ 0x00 ∷ 0x00 ∷ 0x00 ∷ 0x00 ∷ 0x00 ∷ 0x00
     ∷ 0x02 ∷ 0x76 ∷ 0x00 ∷ 0x00 ∷ 0x00 ∷ 0x04 ∷ 0x05
     ∷ 0x02 ∷ 0x7A ∷ 0x00 ∷ 0x00 ∷ 0x00 ∷ 0x08 ∷ 0x05
@@ -44,16 +44,16 @@ content_listed =
     ∷ 0x03 ∷ 0x00 ∷ 0x00 ∷ 0x00 ∷ 0x00 ∷ 0x00 ∷ 0x00 ∷ 0x00 ∷ 0x00 ∷ 0x1E ∷ 0x86 ∷ 0x00 ∷ 0x00 ∷ 0x00 ∷ 0x01 ∷ 0x19
     ∷ 0x00 ∷ []
 
-abbrev info_listed : List ℕ
-info_listed = 0x4B ∷ 0x00 ∷ 0x00 ∷ 0x00 ∷ 0x04 ∷ 0x00 ∷ 0x44 ∷ 0x00 ∷ 0x00 ∷ 0x00 ∷ 0x08 ∷ content_listed
+abbrev info_simulated : List ℕ
+info_simulated = 0x4B ∷ 0x00 ∷ 0x00 ∷ 0x00 ∷ 0x04 ∷ 0x00 ∷ 0x44 ∷ 0x00 ∷ 0x00 ∷ 0x00 ∷ 0x08 ∷ content_simulated
 
 -- the one file, in directory 0
-abbrev line_header_listed : List ℕ
-line_header_listed = 0x4E ∷ 0x00 ∷ 0x00 ∷ 0x00 ∷ 0x04 ∷ 0x00 ∷ 0x1E ∷ 0x00 ∷ 0x00 ∷ 0x00 ∷ 0x01 ∷ 0x01 ∷ 0x01 ∷ 0xFB ∷ 0x0E ∷ 0x0D ∷ 0x00 ∷ 0x01 ∷ 0x01 ∷ 0x01 ∷ 0x01 ∷ 0x00 ∷ 0x00 ∷ 0x00 ∷ 0x01 ∷ 0x00 ∷ 0x00 ∷ 0x01 ∷ 0x00 ∷ 0x67 ∷ 0x2E ∷ 0x77 ∷ 0x61 ∷ 0x73 ∷ 0x6D ∷ 0x00 ∷ 0x00 ∷ 0x00 ∷ 0x00 ∷ 0x00 ∷ []
+abbrev line_header_simulated : List ℕ
+line_header_simulated = 0x4E ∷ 0x00 ∷ 0x00 ∷ 0x00 ∷ 0x04 ∷ 0x00 ∷ 0x1E ∷ 0x00 ∷ 0x00 ∷ 0x00 ∷ 0x01 ∷ 0x01 ∷ 0x01 ∷ 0xFB ∷ 0x0E ∷ 0x0D ∷ 0x00 ∷ 0x01 ∷ 0x01 ∷ 0x01 ∷ 0x01 ∷ 0x00 ∷ 0x00 ∷ 0x00 ∷ 0x01 ∷ 0x00 ∷ 0x00 ∷ 0x01 ∷ 0x00 ∷ 0x67 ∷ 0x2E ∷ 0x77 ∷ 0x61 ∷ 0x73 ∷ 0x6D ∷ 0x00 ∷ 0x00 ∷ 0x00 ∷ 0x00 ∷ 0x00 ∷ []
 
 -- the row at 0, of line 0; that at 5, of line 25, where the prologue ends; and that at 15, of line 30
-abbrev line_program_listed : List ℕ
-line_program_listed =
+abbrev line_program_simulated : List ℕ
+line_program_simulated =
     0x00 ∷ 0x09 ∷ 0x02 ∷ 0x00 ∷ 0x00 ∷ 0x00 ∷ 0x00 ∷ 0x00 ∷ 0x00 ∷ 0x00 ∷ 0x00
     ∷ 0x00 ∷ 0x02 ∷ 0x04 ∷ 0x01 ∷ 0x03 ∷ 0x7F ∷ 0x01
     ∷ 0x00 ∷ 0x02 ∷ 0x04 ∷ 0x01 ∷ 0x0A ∷ 0x03 ∷ 0x19 ∷ 0x02 ∷ 0x05 ∷ 0x01
@@ -61,20 +61,20 @@ line_program_listed =
     ∷ 0x02 ∷ 0x0F ∷ 0x00 ∷ 0x01 ∷ 0x01 ∷ []
 
 -- from the function's begin to its end, and the end of the list
-abbrev ranges_listed : List ℕ
-ranges_listed = 0x00 ∷ 0x00 ∷ 0x00 ∷ 0x00 ∷ 0x00 ∷ 0x00 ∷ 0x00 ∷ 0x00 ∷ 0x1E ∷ 0x00 ∷ 0x00 ∷ 0x00 ∷ 0x00 ∷ 0x00 ∷ 0x00 ∷ 0x00 ∷ 0x00 ∷ 0x00 ∷ 0x00 ∷ 0x00 ∷ 0x00 ∷ 0x00 ∷ 0x00 ∷ 0x00 ∷ 0x00 ∷ 0x00 ∷ 0x00 ∷ 0x00 ∷ 0x00 ∷ 0x00 ∷ 0x00 ∷ 0x00 ∷ []
+abbrev ranges_simulated : List ℕ
+ranges_simulated = 0x00 ∷ 0x00 ∷ 0x00 ∷ 0x00 ∷ 0x00 ∷ 0x00 ∷ 0x00 ∷ 0x00 ∷ 0x1E ∷ 0x00 ∷ 0x00 ∷ 0x00 ∷ 0x00 ∷ 0x00 ∷ 0x00 ∷ 0x00 ∷ 0x00 ∷ 0x00 ∷ 0x00 ∷ 0x00 ∷ 0x00 ∷ 0x00 ∷ 0x00 ∷ 0x00 ∷ 0x00 ∷ 0x00 ∷ 0x00 ∷ 0x00 ∷ 0x00 ∷ 0x00 ∷ 0x00 ∷ 0x00 ∷ []
 
--- behind those of the module's own unit, at 108, 115, 118, 122, 126, 130 and 134
-abbrev texts_listed : List ℕ
-texts_listed = texts_ended (codes "g.wasm" ∷ codes "/m" ∷ codes "i32" ∷ codes "i64" ∷ codes "f32" ∷ codes "f64" ∷ codes "wasm-function[0]" ∷ [])
+-- behind those of the module's synthetic unit, at 108, 115, 118, 122, 126, 130 and 134
+abbrev texts_simulated : List ℕ
+texts_simulated = texts_ended (codes "g.wasm" ∷ codes "/m" ∷ codes "i32" ∷ codes "i64" ∷ codes "f32" ∷ codes "f64" ∷ codes "wasm-function[0]" ∷ [])
 
 -- ---- the output
 
 abbrev to_function : ℕ → ℕ → OutputRelocation
 to_function offset addend = record { offset = offset; size = 8; target = function 0; addend = pos addend }
 
-abbrev relocations_listed : List OutputRelocation
-relocations_listed =
+abbrev relocations_simulated : List OutputRelocation
+relocations_simulated =
     to_section 83 (codes ".debug_abbrev") 68
     ∷ to_section 89 (codes ".debug_str") 28
     ∷ to_section 95 (codes ".debug_str") 108
@@ -91,43 +91,43 @@ relocations_listed =
 -- with other entries of .debug_info, or another line program
 abbrev output_with : List ℕ → List ℕ → List OutputSection
 output_with info program =
-    a_section (codes ".debug_abbrev") (own_abbreviations ++ abbreviations_listed) []
-    ∷ a_section (codes ".debug_info") (own_info ++ info) (own_relocations ++ relocations_listed)
-    ∷ a_section (codes ".debug_line") (line_header_listed ++ program) (to_function 43 0 ∷ [])
-    ∷ a_section (codes ".debug_ranges") ranges_listed (to_function 0 0 ∷ to_function 8 30 ∷ [])
-    ∷ a_section (codes ".debug_str") (own_texts ++ texts_listed) [] ∷ []
+    a_section (codes ".debug_abbrev") (synthetic_abbreviations ++ abbreviations_simulated) []
+    ∷ a_section (codes ".debug_info") (synthetic_info ++ info) (synthetic_relocations ++ relocations_simulated)
+    ∷ a_section (codes ".debug_line") (line_header_simulated ++ program) (to_function 43 0 ∷ [])
+    ∷ a_section (codes ".debug_ranges") ranges_simulated (to_function 0 0 ∷ to_function 8 30 ∷ [])
+    ∷ a_section (codes ".debug_str") (synthetic_texts ++ texts_simulated) [] ∷ []
 
-abbrev pub output_listed : List OutputSection
-output_listed = output_with info_listed line_program_listed
+abbrev pub output_simulated : List OutputSection
+output_simulated = output_with info_simulated line_program_simulated
 
 -- ---- what it says
 
 -- the trees that are wanted of the small module whose subprogram begins at 0
-abbrev trees_listed : List Tree
-trees_listed = own_tree 0 ∷ simulated_front (codes "g.wasm") (codes "/m") (interval_of 0 (0, 30) ∷ []) (simulated_function 0 30 (codes "wasm-function[0]") 25 ∷ []) ∷ []
+abbrev trees_simulated : List Tree
+trees_simulated = synthetic_tree 0 ∷ simulated_front (codes "g.wasm") (codes "/m") (interval_of 0 (0, 30) ∷ []) (simulated_function 0 30 (codes "wasm-function[0]") 25 ∷ []) ∷ []
 
-wanted-listed : trees_of Little 0 (named_small (told_with abbreviations_small info_0 line_small) ∷ []) ≡ trees_listed
+wanted-simulated : trees_of Little 0 (named_small (told_with abbreviations_small info_0 line_small) ∷ []) ≡ trees_simulated
 unfolding simulated_on_literals
-wanted-listed = refl
+wanted-simulated = refl
 
-carries-listed : CarriesTrees Little trees_listed output_listed
+carries-simulated : CarriesTrees Little trees_simulated output_simulated
 unfolding simulated_on_literals ranges_read
-carries-listed = refl
+carries-simulated = refl
 
-texts-listed : HasTextsOnce (output_sections Little output_listed)
+texts-simulated : HasTextsOnce (output_sections Little output_simulated)
 unfolding simulated_on_literals
-texts-listed = refl
+texts-simulated = refl
 
 -- each field has its relocation, in the order of the fields
-relocated-info : relocations_of_fields (fields_of_section (output_sections Little output_listed) Info) ≡ own_relocations ++ relocations_listed
+relocated-info : relocations_of_fields (fields_of_section (output_sections Little output_simulated) Info) ≡ synthetic_relocations ++ relocations_simulated
 unfolding simulated_on_literals fields_of_section fields_at fields_of_entry
 relocated-info = refl
 
-relocated-line : relocations_of_fields (fields_of_section (output_sections Little output_listed) Line) ≡ to_function 43 0 ∷ []
+relocated-line : relocations_of_fields (fields_of_section (output_sections Little output_simulated) Line) ≡ to_function 43 0 ∷ []
 unfolding simulated_on_literals fields_of_section fields_of_line_table fields_of_instructions
 relocated-line = refl
 
-relocated-ranges : relocations_of_fields (fields_of_section (output_sections Little output_listed) Ranges) ≡ to_function 0 0 ∷ to_function 8 30 ∷ []
+relocated-ranges : relocations_of_fields (fields_of_section (output_sections Little output_simulated) Ranges) ≡ to_function 0 0 ∷ to_function 8 30 ∷ []
 unfolding simulated_on_literals fields_of_section fields_of_named
 relocated-ranges = refl
 
@@ -137,17 +137,17 @@ relocated-ranges = refl
 abbrev segments_said : List OutputSection → List (Result (List Segment) Fault)
 segments_said s = map (segments_of_unit (output_sections Little s)) (units (output_sections Little s)).items
 
-abbrev segment_listed : Segment
-segment_listed = simulated_segment (codes "g.wasm") 20 function_small
+abbrev segment_simulated : Segment
+segment_simulated = simulated_segment (codes "g.wasm") 20 function_small
 
-segments-listed : segments_said output_listed ≡ Ok [] ∷ Ok (segment_listed ∷ []) ∷ []
+segments-simulated : segments_said output_simulated ≡ Ok [] ∷ Ok (segment_simulated ∷ []) ∷ []
 unfolding simulated_on_literals
-segments-listed = refl
+segments-simulated = refl
 
--- so the last unit has the lines that are wanted of it
-pub lines-listed : CarriesListed (output_sections Little output_listed) (codes "g.wasm") ((20, function_small) ∷ []) (unit_of 1 output_listed)
+-- so the simulated unit has the lines that are wanted of it
+pub lines-simulated : CarriesSimulated (output_sections Little output_simulated) (codes "g.wasm") ((20, function_small) ∷ []) (unit_of 1 output_simulated)
 unfolding simulated_on_literals
-lines-listed = record { made = table_of 1 output_listed; made_read = refl; version = refl; directories = refl; files = refl; each = (simulated_segment-is (codes "g.wasm") 20 function_small refl refl, tt) }
+lines-simulated = record { made = table_of 1 output_simulated; made_read = refl; version = refl; directories = refl; files = refl; each = (simulated_segment-is (codes "g.wasm") 20 function_small refl refl, tt) }
 
 -- ---- wrong lines
 
@@ -155,7 +155,7 @@ abbrev IsWanted : Segment → Type 0
 IsWanted q = IsSimulated (codes "g.wasm") 20 function_small q
 
 -- it ends one byte early
-not-early : IsWanted (record segment_listed { end = Some 29 }) → ⊥
+not-early : IsWanted (record segment_simulated { end = Some 29 }) → ⊥
 not-early h = let same : 29 ≡ 30 = ap (λ o. unwrap_or o 0) h.ends in omega (arith, same)
 
 -- the line of a row, and whether the prologue ends there
@@ -169,26 +169,27 @@ prologues_of (Some r) = elim r.prologue_end [ true ↦ 1 | false ↦ 0 ]
 
 -- segments with the rows at 5 and 15 as they are given
 abbrev with_rows : ℕ → ℕ → Segment
-with_rows at_5 at_15 = record segment_listed {
+with_rows at_5 at_15 = record segment_simulated {
   rows =
       record { offset = 0; source = simulated_contents (codes "g.wasm") 0 false }
       ∷ record { offset = 5; source = simulated_contents (codes "g.wasm") at_5 false }
       ∷ record { offset = 15; source = simulated_contents (codes "g.wasm") at_15 false } ∷ [];
 }
 
--- its last line counts from the contents of the code section, its second row does not end the prologue, and before its first source it has the line of that
+-- its last line counts from the contents of the code section, its second row does not end the prologue, and before its first source it has
+-- the line of that
 not-wasm_offset : IsWanted (with_rows 25 10) → ⊥
 not-wasm_offset h = let same : 10 ≡ 30 = ap line_of (h.agrees 15 (lit< tt)) in omega (arith, same)
 
 not-without_prologue : IsWanted (with_rows 25 30) → ⊥
 not-without_prologue h = let same : 0 ≡ 1 = ap prologues_of (h.agrees 5 (lit< tt)) in omega (arith, same)
 
-not-from_0 : IsWanted (record segment_listed { rows = record { offset = 0; source = simulated_contents (codes "g.wasm") 25 true } ∷ [] }) → ⊥
+not-from_0 : IsWanted (record segment_simulated { rows = record { offset = 0; source = simulated_contents (codes "g.wasm") 25 true } ∷ [] }) → ⊥
 not-from_0 h = let same : 25 ≡ 0 = ap line_of (h.agrees 4 (lit< tt)) in omega (arith, same)
 
 -- it has a row more, wherever this stands and whatever it says
 abbrev with_row : ℕ → ℕ → Segment
-with_row offset line = record segment_listed { rows = record { offset = offset; source = simulated_contents (codes "g.wasm") line false } ∷ segment_listed.rows }
+with_row offset line = record segment_simulated { rows = record { offset = offset; source = simulated_contents (codes "g.wasm") line false } ∷ segment_simulated.rows }
 
 not-with_row : (offset line : ℕ) → IsWanted (with_row offset line) → ⊥
 not-with_row offset line h = let same : 4 ≡ 3 = ap length h.rows in omega (arith, same)

@@ -16,7 +16,7 @@ use Rattle.dwc_native.specs.Parts.{context_label}
 use Rattle.dwc_rules.specs.Refusals.{of_place, bad_label, lacks_memory, unmapped_register}
 use Rattle.dwc_carried.specs.Forests.{first_refusal, module_trees}
 use Rattle.dwc_worked.proofs.SmallModule.{line_small, told_small}
-use Rattle.dwc_worked.proofs.OwnTrees.{own_tree_with, context_entry}
+use Rattle.dwc_worked.proofs.SyntheticTrees.{synthetic_tree_with, context_entry}
 use Rattle.dwc_worked.proofs.Readings.{three_sections}
 use Rattle.dwc_worked.proofs.LineTables.{function_small}
 use Rattle.dwc_worked.proofs.DraftsOnLiterals.{drafts_on_literals}
@@ -71,12 +71,12 @@ abbrev pub built : List ℕ
 built = 0x7C ∷ 0x00 ∷ 0x23 ∷ 0x12 ∷ 0x7E ∷ 0xD0 ∷ 0x00 ∷ 0x06 ∷ 0x16 ∷ 0x0C ∷ 0xFF ∷ 0xFF ∷ 0xFF ∷ 0xFF ∷ 0x1A ∷ 0x22 ∷ []
 
 -- over the first 20 of 30 bytes a list
-on_a_part : module_trees (compilation_of info_variable (in_range 1 0 20 ∷ []) (defined 80) numbered) ≡ own_tree_with 0 80 ∷ tree_of (locations (record { over = interval_of 0 (0, 20); bytes = built } ∷ [])) ∷ []
+on_a_part : module_trees (compilation_of info_variable (in_range 1 0 20 ∷ []) (defined 80) numbered) ≡ synthetic_tree_with 0 80 ∷ tree_of (locations (record { over = interval_of 0 (0, 20); bytes = built } ∷ [])) ∷ []
 unfolding drafts_on_literals
 on_a_part = refl
 
 -- over all of them the expression itself
-on_the_whole : module_trees (compilation_of info_variable (in_range 1 0 30 ∷ []) (defined 80) numbered) ≡ own_tree_with 0 80 ∷ tree_of (expression built) ∷ []
+on_the_whole : module_trees (compilation_of info_variable (in_range 1 0 30 ∷ []) (defined 80) numbered) ≡ synthetic_tree_with 0 80 ∷ tree_of (expression built) ∷ []
 unfolding drafts_on_literals
 on_the_whole = refl
 

@@ -46,7 +46,7 @@ info_no_lines = 0x12 ∷ 0x00 ∷ 0x00 ∷ 0x00 ∷ 0x04 ∷ 0x00 ∷ 0x00 ∷ 0
 abbrev pub widths_of_module : Module → List ℕ
 widths_of_module m = map (λ name. widest name (record { order = Little; pointer_bytes = 8; modules = m ∷ []; next_id = 0; common_entry = None })) (Abbrev ∷ Info ∷ Line ∷ [])
 
--- the module's own unit, and the carried one
+-- the module's synthetic unit, and the carried one
 widths-no_lines : widths_of_module (module_with abbreviations_no_lines info_no_lines []) ≡ (698 + 233 + 575) ∷ (176 + 91 + 117) ∷ 73 ∷ []
 unfolding drafts_on_literals
 widths-no_lines = refl

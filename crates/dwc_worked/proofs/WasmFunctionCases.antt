@@ -1,7 +1,7 @@
 -- The types of the locals of a WebAssembly file's functions, and files that are broken in each place.
 use Rattle.std.proofs.Common.{◌≡◌, ℕ, zero, suc, List, [], ◌∷◌, ◌++◌, length, map, Ok, Err, refl, ap, arith}
 use Rattle.std.specs.Prelude.{Result, get_or}
-use Rattle.dwc_base.specs.declared.wasm.ValType.TheVariants.{I32, I64, F32, F64, Other}
+use Rattle.dwc_base.specs.declared.translation.ValType.TheVariants.{I32, I64, F32, F64, Other}
 use Rattle.dwc_base.specs.CodeOffsets.{wasm_code_offset}
 use Rattle.dwc_base.specs.Wasm.{WasmModule, wasm_module, preamble}
 use Rattle.dwc_base.specs.WasmFunctions.{value_type, bodies, LocalTypes, no_local_types, local_types}

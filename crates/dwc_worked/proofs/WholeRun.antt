@@ -1,4 +1,5 @@
--- The small module from its bytes and its map's bytes to the printed text, which has the module's own unit, the carried one, and the last.
+-- The small module from its bytes and its map's bytes to the printed text, which has the module's synthetic unit, the carried one, and the
+-- simulated one.
 use Rattle.std.proofs.Common.{◌≡◌, ℕ, ◌<◌, ◌^◌, ◌-◌, zero, suc, arith, List, [], ◌∷◌, length, get_or, map, slice_get, Some, None, Ok, Option, true, refl, ap, subst, sym, ◌∙◌, lit<}
 use Rattle.std.specs.Option.{unwrap_or}
 use Rattle.std.specs.Ordering.{nat_cmp}

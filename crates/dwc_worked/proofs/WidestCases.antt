@@ -1,6 +1,6 @@
 -- The widest sizes of trees.
 use Rattle.std.proofs.Common.{◌≡◌, ◌+◌, ◌*◌, [], ◌∷◌, true, refl}
-use Rattle.dwc_worked.proofs.OwnTrees.{own_tree}
+use Rattle.dwc_worked.proofs.SyntheticTrees.{synthetic_tree}
 use Rattle.dwc_worked.proofs.TreesSmall.{tree_small}
 use Rattle.dwc_base.specs.declared.records.Address.TheVariants.{Constant}
 use Rattle.dwc_base.specs.declared.section_name.SectionName.TheVariants.{Abbrev, Info, Line, Loc, Str}
@@ -23,16 +23,16 @@ lists-small = refl
 none-small : widest_of_trees Line (tree_small ∷ []) ≡ 0
 none-small = refl
 
--- A module's own unit has 8 entries with 18 attributes: their values have 55 bytes, three of its entries have children, and its nine
+-- A module's synthetic unit has 8 entries with 18 attributes: their values have 55 bytes, three of its entries have children, and its nine
 -- texts stand once each.
-info-own : widest_of_trees Info (own_tree 0 ∷ []) ≡ 11 + 8 * 10 + 55 + 3 * 10
-info-own = refl
+info-synthetic : widest_of_trees Info (synthetic_tree 0 ∷ []) ≡ 11 + 8 * 10 + 55 + 3 * 10
+info-synthetic = refl
 
-abbrev-own : widest_of_trees Abbrev (own_tree 0 ∷ []) ≡ 8 * (21 + 20) + 18 * 20 + 10
-abbrev-own = refl
+abbrev-synthetic : widest_of_trees Abbrev (synthetic_tree 0 ∷ []) ≡ 8 * (21 + 20) + 18 * 20 + 10
+abbrev-synthetic = refl
 
-texts-own : widest_of_trees Str (own_tree 0 ∷ own_tree 1 ∷ []) ≡ 108
-texts-own = refl
+texts-synthetic : widest_of_trees Str (synthetic_tree 0 ∷ synthetic_tree 1 ∷ []) ≡ 108
+texts-synthetic = refl
 
 -- constants of 1, 2, 4 and 8 bytes and of variable length, a flag, a block of three bytes, a text elsewhere, and a reference
 entry-forms : widest_entry (record {

@@ -20,7 +20,7 @@ use Rattle.dwc_output.specs.TreeReading.{CarriesTrees}
 use Rattle.dwc_carried.specs.Forests.{first_refusal, module_trees}
 use Rattle.dwc_worked.proofs.DraftsOnLiterals.{drafts_on_literals}
 use Rattle.dwc_worked.proofs.LineTables.{function_small}
-use Rattle.dwc_worked.proofs.OwnTrees.{own_tree, context_entry, own_abbreviations, own_info, own_texts, empty_list}
+use Rattle.dwc_worked.proofs.SyntheticTrees.{synthetic_tree, context_entry, synthetic_abbreviations, synthetic_info, synthetic_texts, empty_list}
 use Rattle.dwc_worked.proofs.Readings.{three_sections}
 use Rattle.dwc_worked.proofs.SmallModule.{told_small}
 use Rattle.dwc_worked.proofs.TreeInputs.{an_entry, a_section}
@@ -94,7 +94,7 @@ tree_this =
     ∷ an_entry 1 0x26 ((0x49, entry 1 17) ∷ [])
     ∷ an_entry 1 0x24 ((0x03, text (codes "char")) ∷ []) ∷ [])
 
-trees-this : module_trees (compilation_of [] info_this) ≡ own_tree 0 ∷ tree_this ∷ []
+trees-this : module_trees (compilation_of [] info_this) ≡ synthetic_tree 0 ∷ tree_this ∷ []
 unfolding drafts_on_literals
 trees-this = refl
 
@@ -102,7 +102,7 @@ not_refused-this : first_refusal (compilation_of [] info_this) ≡ None
 unfolding drafts_on_literals
 not_refused-this = refl
 
-targets-this : HasAllTargets (own_tree 0 ∷ tree_this ∷ [])
+targets-this : HasAllTargets (synthetic_tree 0 ∷ tree_this ∷ [])
 targets-this = refl
 
 -- ---- an output
@@ -162,12 +162,12 @@ texts_out = texts_ended (
 
 abbrev output_this : List OutputSection
 output_this =
-    a_section (codes ".debug_abbrev") (own_abbreviations ++ abbreviations_out) []
-    ∷ a_section (codes ".debug_info") (own_info ++ info_out) (record { offset = 90; size = 8; target = function 0; addend = pos 0 } ∷ [])
+    a_section (codes ".debug_abbrev") (synthetic_abbreviations ++ abbreviations_out) []
+    ∷ a_section (codes ".debug_info") (synthetic_info ++ info_out) (record { offset = 90; size = 8; target = function 0; addend = pos 0 } ∷ [])
     ∷ a_section (codes ".debug_loc") empty_list []
-    ∷ a_section (codes ".debug_str") (own_texts ++ texts_out) [] ∷ []
+    ∷ a_section (codes ".debug_str") (synthetic_texts ++ texts_out) [] ∷ []
 
-carries-this : CarriesTrees Little (own_tree 0 ∷ tree_this ∷ []) output_this
+carries-this : CarriesTrees Little (synthetic_tree 0 ∷ tree_this ∷ []) output_this
 unfolding drafts_on_literals
 carries-this = refl
 

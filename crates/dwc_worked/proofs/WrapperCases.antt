@@ -6,7 +6,7 @@ use Rattle.dwc_dwarf.specs.Values as Values
 use Rattle.dwc_dwarf.specs.Values.{Value, unit_reference, info_reference}
 use Rattle.dwc_rules.specs.Kept.{Placed}
 use Rattle.dwc_dwarf.specs.Trees.{constant, flag, text}
-use Rattle.dwc_rules.specs.Drafts.{Role, itself, pointer_to_wrapper, reference_to_target, pointer_to_target, made_of, own_entry, DraftValue, done, goes_to, Draft}
+use Rattle.dwc_rules.specs.Drafts.{Role, itself, pointer_to_wrapper, reference_to_target, pointer_to_target, made_of, synthetic_entry, DraftValue, done, goes_to, Draft}
 use Rattle.dwc_rules.specs.Wrappers.{entries_made}
 use Rattle.dwc_rules.specs.DraftOrder.{IsInFileOrder}
 use Rattle.dwc_worked.proofs.SmallLists.{at_unit}
@@ -42,7 +42,7 @@ abbrev wrapper_at_20 : ℕ → List ℕ → List (ℕ × DraftValue) → List Dr
 wrapper_at_20 depth name target =
     draft depth 0x13 (Some (20, itself)) ((0x03, done (text name)) ∷ (0x0B, done (constant 0x0B 4)) ∷ [])
     ∷ draft (suc depth) 0x2F None ((0x03, done (text (codes "T"))) ∷ target)
-    ∷ draft (suc depth) 0x0D None ((0x03, done (text (codes "__ptr"))) ∷ (0x49, goes_to (own_entry 7)) ∷ (0x38, done (constant 0x0B 0)) ∷ [])
+    ∷ draft (suc depth) 0x0D None ((0x03, done (text (codes "__ptr"))) ∷ (0x49, goes_to (synthetic_entry 7)) ∷ (0x38, done (constant 0x0B 0)) ∷ [])
     ∷ method_of (suc depth) (codes "ptr") pointer_to_target ++ method_of (suc depth) (codes "operator*") reference_to_target ++ method_of (suc depth) (codes "operator->") pointer_to_target
 
 abbrev types_at_20 : ℕ → List (ℕ × DraftValue) → List Draft

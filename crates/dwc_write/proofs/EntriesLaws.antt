@@ -8,21 +8,21 @@ use Rattle.dwc_base.specs.declared.records.Endian.{Endian}
 use Rattle.std.specs.Int.{w64, cast_signed}
 use Rattle.dwc_base.specs.declared.constants.TheConstants.{DW_FORM_implicit_const, DW_FORM_data1, DW_FORM_data2, DW_FORM_data4, DW_FORM_data8, DW_FORM_sdata}
 use Rattle.dwc_base.specs.Outputs.{OutputRelocation}
-use Rattle.dwc_write.specs.Spelled.{at_places}
-use Rattle.dwc_write.specs.SpelledUnits.{form_number, as_data1, as_data2, as_data4, as_data8, as_sdata, as_udata, Shaped, attribute_bytes, next_depth, shaped, entry_bytes}
+use Rattle.dwc_section.specs.Spelled.{at_places}
+use Rattle.dwc_unit.specs.SpelledUnits.{form_number, as_data1, as_data2, as_data4, as_data8, as_sdata, as_udata, Shaped, attribute_bytes, next_depth, shaped, entry_bytes}
 use Rattle.dwc_write.specs.SpelledRelocations.{entry_relocations, value_relocations}
-use Rattle.dwc_write.specs.declared.attributes.Attribute.{Attribute}
-use Rattle.dwc_write.specs.declared.attributes.AttributeValue.{AttributeValue}
-use Rattle.dwc_write.specs.declared.attributes.AttributeValue.TheVariants.{Address, Constant, Flag, Block, Exprloc, StringRef, LineProgramRef, RangeListRef, LocationListRef, UnitRef, DebugInfoRef}
-use Rattle.dwc_write.specs.declared.attributes.DebugInfoRef.TheVariants.{Entry}
-use Rattle.dwc_write.specs.declared.abbreviations.AttributeForm.{AttributeForm}
-use Rattle.dwc_write.specs.GivenUnits.{GivenEntry, Places, no_places, EntryShape, IsPlainShape, form_of, forms_of, first_depth, shape_of, shapes_of, same_forms, same_flag, same_shape, place_in, with_use, first_uses, code_in, written_attribute, written_attributes, written_entries, written_of}
+use Rattle.dwc_unit.specs.declared.attributes.Attribute.{Attribute}
+use Rattle.dwc_unit.specs.declared.attributes.AttributeValue.{AttributeValue}
+use Rattle.dwc_unit.specs.declared.attributes.AttributeValue.TheVariants.{Address, Constant, Flag, Block, Exprloc, StringRef, LineProgramRef, RangeListRef, LocationListRef, UnitRef, DebugInfoRef}
+use Rattle.dwc_unit.specs.declared.attributes.DebugInfoRef.TheVariants.{Entry}
+use Rattle.dwc_unit.specs.declared.attributes.AttributeForm.{AttributeForm}
+use Rattle.dwc_unit.specs.GivenUnits.{GivenEntry, Places, no_places, EntryShape, IsPlainShape, form_of, forms_of, first_depth, shape_of, shapes_of, same_forms, same_flag, same_shape, place_in, with_use, first_uses, code_in, written_attribute, written_attributes, written_entries, written_of}
 use Rattle.dwc_write.specs.Layouts.{codes_of}
-use Rattle.dwc_write.specs.declared.list_places.ListPlaces.{ListPlaces}
-use Rattle.dwc_write.specs.Lists.{behind_attributes, behind_value, no_lists, nowhere}
-use Rattle.dwc_write.specs.declared.error.WriteError.{WriteError}
-use Rattle.dwc_write.specs.Writers.{Writing, Refuses, Writes, appended}
-use Rattle.dwc_write.proofs.WritesLaws.{whole, whole-done, whole-more, whole-refused}
+use Rattle.dwc_unit.specs.declared.lists.ListPlaces.{ListPlaces}
+use Rattle.dwc_unit.specs.Lists.{behind_attributes, behind_value, no_lists, nowhere}
+use Rattle.dwc_section.specs.declared.error.WriteError.{WriteError}
+use Rattle.dwc_section.specs.Writers.{Writing, Refuses, Writes, appended}
+use Rattle.dwc_section.proofs.WritesLaws.{whole, whole-done, whole-more, whole-refused}
 use Rattle.dwc_write.proofs.ListLaws.{drop-more}
 use Rattle.std.proofs.lemmas.List.{drop_all}
 

@@ -20,7 +20,7 @@ use Rattle.dwc_dwarf.specs.TreeLaws.{HasTextsOnce}
 use Rattle.dwc_output.specs.TreeReading.{CarriesTrees, output_lists, trees}
 use Rattle.dwc_dwarf.specs.Trees.{Tree}
 use Rattle.dwc_base.proofs.FramesApart.{frames-apart}
-use Rattle.dwc_write.specs.GivenUnits.{OrderedUnit}
+use Rattle.dwc_unit.specs.GivenUnits.{OrderedUnit}
 use Rattle.dwc_write.specs.ReadBack.{IsReadUnit, ReadsBack}
 use Rattle.dwc_write.proofs.OutputForms.{Differ, IsOther, none-differ}
 

@@ -4,18 +4,18 @@ use Rattle.std.specs.Prelude.{Option, Some, None, Result, sum_by}
 use Rattle.std.specs.List.{AllZip, flat_map}
 use Rattle.std.proofs.lemmas.List.Sums.{sum_by-cons}
 use Rattle.dwc_base.specs.declared.records.Endian.{Endian}
-use Rattle.dwc_write.specs.declared.error.WriteError.{WriteError}
-use Rattle.dwc_write.specs.declared.error.WriteError.TheVariants.{TooLarge, InvalidFrameCodeOffset, InvalidFrameDataOffset, OutOfMemory}
-use Rattle.dwc_write.specs.Spelled.{at_places}
-use Rattle.dwc_write.specs.SpelledUnits.{WrittenAttribute, shaped}
-use Rattle.dwc_write.specs.GivenUnits.{EntryShape, GivenEntry, OrderedUnit, no_places, size_of, written_attribute, written_attributes, written_entries}
-use Rattle.dwc_write.specs.declared.attributes.Attribute.{Attribute}
+use Rattle.dwc_section.specs.declared.error.WriteError.{WriteError}
+use Rattle.dwc_section.specs.declared.error.WriteError.TheVariants.{TooLarge, InvalidFrameCodeOffset, InvalidFrameDataOffset, OutOfMemory}
+use Rattle.dwc_section.specs.Spelled.{at_places}
+use Rattle.dwc_unit.specs.SpelledUnits.{WrittenAttribute, shaped}
+use Rattle.dwc_unit.specs.GivenUnits.{EntryShape, GivenEntry, OrderedUnit, no_places, size_of, written_attribute, written_attributes, written_entries}
+use Rattle.dwc_unit.specs.declared.attributes.Attribute.{Attribute}
 use Rattle.dwc_write.proofs.EntriesLaws.{unplaced-attributes}
-use Rattle.dwc_write.specs.Lists.{no_lists, nowhere}
+use Rattle.dwc_unit.specs.Lists.{no_lists, nowhere}
 use Rattle.dwc_write.specs.Layouts.{UnitPlaces, offset_among, offset_if_added, offsets_by_number, places_of_units, unit_length}
 use Rattle.dwc_base.specs.declared.section_name.SectionName.TheVariants.{Info}
-use Rattle.dwc_write.specs.Writers.{section_of}
-use Rattle.dwc_write.proofs.RefusalLaws.{past-limit}
+use Rattle.dwc_section.specs.Writers.{section_of}
+use Rattle.dwc_section.proofs.RefusalLaws.{past-limit}
 use Rattle.dwc_write.specs.LayoutViews.{AdvancesOrMemory, offset_known, places_view}
 use Rattle.dwc_write.specs.declared.layout.UnitLayout.{UnitLayout}
 

@@ -1,33 +1,8 @@
-pub mod ReadNumbers
 pub mod SizeLaws
 pub mod LayoutLaws
-pub mod ReadParts
-pub mod ReadBytes
 pub mod ReadTables
-pub mod ReadValues
-pub mod ReadEntries
 pub mod ReadAddresses
-pub mod ReadProgram
-pub mod ReadRows
-pub mod ReadLines
-pub mod ReadWritten
 pub mod ReadSections
-pub mod Appended
-pub mod FrameNumbers
-pub mod FrameEntries
-pub mod FrameOutputs
-pub mod FrameWidths
-pub mod SizedBytes
-pub mod Whole
-pub mod LineLaws
-pub mod ToldLaws
-pub mod NameLaws
-pub mod RowLaws
-pub mod UnitLaws
-pub mod AttributeLaws
-pub mod AdditionLaws
-pub mod RefusalLaws
-pub mod WritesLaws
 pub mod ListLaws
 pub mod ReadListed
 pub mod ReadLists
@@ -41,7 +16,6 @@ pub mod SequenceLaws
 pub mod ShapeLaws
 pub mod ShapeSets
 pub mod ShapePlaces
-pub mod FileOrderLaws
 pub mod OrderedLaws
 pub mod ReadRelocations
 pub mod TableLaws
@@ -64,13 +38,6 @@ pub mod WidestLaws
 pub mod WidestTreeLaws
 pub mod WideLaws
 pub mod ReferenceSmall
-pub mod AddedInOrder
-pub mod RenumberedLaws
-pub mod AddedInOrderUnits
-pub mod NumberLaws
-pub mod AddedInOrderTrees
-pub mod AddedInOrderValues
-mod TextSets
 mod TextLaws
 mod ReadTexts
 mod SaidTexts

@@ -6,13 +6,13 @@ use Rattle.std.proofs.lemmas.Grind.{flat_map-append}
 use Rattle.std.proofs.lemmas.List.{drop_all}
 use Rattle.dwc_base.specs.declared.records.Endian.{Endian}
 use Rattle.dwc_base.specs.Outputs.{OutputRelocation}
-use Rattle.dwc_write.specs.declared.error.WriteError.{WriteError}
-use Rattle.dwc_write.specs.Spelled.{at_places}
-use Rattle.dwc_write.specs.Lists.{ListEntry, listed_bytes, listed_relocations, list_bytes, list_relocations}
-use Rattle.dwc_write.specs.Writers.{Writing, Refuses, Writes, appended}
-use Rattle.dwc_write.proofs.ReadRelocations.{at_places-append}
-use Rattle.dwc_write.proofs.RefusalLaws.{past-more}
-use Rattle.dwc_write.proofs.WritesLaws.{appended-twice, length-behind, order-behind, writes-then, whole, whole-order, whole-done}
+use Rattle.dwc_section.specs.declared.error.WriteError.{WriteError}
+use Rattle.dwc_section.specs.Spelled.{at_places}
+use Rattle.dwc_unit.specs.Lists.{ListEntry, listed_bytes, listed_relocations, list_bytes, list_relocations}
+use Rattle.dwc_section.specs.Writers.{Writing, Refuses, Writes, appended}
+use Rattle.dwc_unit.proofs.RowFields.{at_places-append}
+use Rattle.dwc_section.proofs.RefusalLaws.{past-more}
+use Rattle.dwc_section.proofs.WritesLaws.{appended-twice, length-behind, order-behind, writes-then, whole, whole-order, whole-done}
 
 pub drop-more : {A : Type 0} (xs : List A) (i : ℕ) (d : A) → i < length xs → drop i xs ≡ get_or xs i d ∷ drop (suc i) xs
 drop-more [] i d within = absurd (omega arith)

@@ -3,16 +3,16 @@ use Rattle.std.proofs.Common.{◌≡◌, ℕ, suc, ◌+◌, ◌<◌, ◌≤◌, 
 use Rattle.std.proofs.lemmas.Grind.{flat_map-append}
 use Rattle.std.proofs.lemmas.List.Sums.{sum_by-cons}
 use Rattle.dwc_base.specs.declared.records.Endian.{Endian}
-use Rattle.dwc_write.specs.declared.attributes.Attribute.{Attribute}
-use Rattle.dwc_write.specs.declared.attributes.AttributeValue.{AttributeValue}
-use Rattle.dwc_write.specs.declared.list_places.ListPlaces.{ListPlaces}
-use Rattle.dwc_write.specs.GivenUnits.{GivenEntry, OrderedUnit, behind_entries, lists_of_entries}
+use Rattle.dwc_unit.specs.declared.attributes.Attribute.{Attribute}
+use Rattle.dwc_unit.specs.declared.attributes.AttributeValue.{AttributeValue}
+use Rattle.dwc_unit.specs.declared.lists.ListPlaces.{ListPlaces}
+use Rattle.dwc_unit.specs.GivenUnits.{GivenEntry, OrderedUnit, behind_entries, lists_of_entries}
 use Rattle.dwc_write.specs.Layouts.{behind_unit}
-use Rattle.dwc_write.specs.Lists.{ListEntry, AreWithin, behind_attributes, behind_lists, behind_value, end_of, ended, held_bytes, held_length, list_bytes, list_length, listed_bytes, listed_length, lists_of_attributes, locations_in, ranges_in}
-use Rattle.dwc_write.specs.SpelledAddresses.{address_bytes, stored}
+use Rattle.dwc_unit.specs.Lists.{ListEntry, AreWithin, behind_attributes, behind_lists, behind_value, end_of, ended, held_bytes, held_length, list_bytes, list_length, listed_bytes, listed_length, lists_of_attributes, locations_in, ranges_in}
+use Rattle.dwc_section.specs.SpelledAddresses.{address_bytes, stored}
 use Rattle.dwc_base.specs.NumberBytes.{number_bytes}
 use Rattle.dwc_write.proofs.ListLaws.{drop-more}
-use Rattle.dwc_write.proofs.ReadNumbers.{number_bytes-length}
+use Rattle.dwc_section.proofs.ReadNumbers.{number_bytes-length}
 
 -- ---- the next lists stand behind
 

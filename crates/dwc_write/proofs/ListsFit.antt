@@ -3,15 +3,15 @@ use Rattle.std.proofs.Common.{ℕ, List, [], ◌∷◌, map}
 use Rattle.std.specs.List.{All}
 use Rattle.std.proofs.lemmas.List.Elements.{All-append, All-cons, All-head, All-nil, All-tail}
 use Rattle.dwc_base.specs.declared.records.Address.{Address as RangeAddress}
-use Rattle.dwc_write.specs.declared.attributes.Attribute.{Attribute}
-use Rattle.dwc_write.specs.declared.attributes.AttributeValue.{AttributeValue}
-use Rattle.dwc_write.specs.declared.attributes.AttributeValue.TheVariants.{Address, Constant, Flag, Block, Exprloc, StringRef, LineProgramRef, RangeListRef, LocationListRef, UnitRef, DebugInfoRef}
-use Rattle.dwc_write.specs.declared.expressions.Expression.{Expression}
-use Rattle.dwc_write.specs.GivenUnits.{GivenEntry, FitsAttribute, FitsEntry, FitsValue, HaveShortLists, lists_of_entries}
-use Rattle.dwc_write.specs.RangeLists.{FitsEnds, FitsRange}
-use Rattle.dwc_write.specs.Lists.{ListEntry, FitsListed, FitsLocation, IsShort, ended, list_end, lists_of_attributes, location_entry, locations_in, range_entry, ranges_in}
+use Rattle.dwc_unit.specs.declared.attributes.Attribute.{Attribute}
+use Rattle.dwc_unit.specs.declared.attributes.AttributeValue.{AttributeValue}
+use Rattle.dwc_unit.specs.declared.attributes.AttributeValue.TheVariants.{Address, Constant, Flag, Block, Exprloc, StringRef, LineProgramRef, RangeListRef, LocationListRef, UnitRef, DebugInfoRef}
+use Rattle.dwc_unit.specs.declared.expressions.Expression.{Expression}
+use Rattle.dwc_unit.specs.GivenUnits.{GivenEntry, FitsAttribute, FitsEntry, FitsValue, HaveShortLists, lists_of_entries}
+use Rattle.dwc_unit.specs.RangeLists.{FitsEnds, FitsRange}
+use Rattle.dwc_unit.specs.Lists.{ListEntry, FitsListed, FitsLocation, IsShort, ended, list_end, lists_of_attributes, location_entry, locations_in, range_entry, ranges_in}
 use Rattle.dwc_write.proofs.ReadListed.{zero-small}
-use Rattle.dwc_write.proofs.ReadValues.{All-back, All-front}
+use Rattle.dwc_unit.proofs.ReadValues.{All-back, All-front}
 
 abbrev pub HasShort : ListEntry → Type 0
 HasShort e = IsShort e.holds

@@ -10,18 +10,18 @@ use Rattle.dwc_base.specs.Units.{UnitHeader}
 use Rattle.dwc_dwarf.specs.Entries.{Entry}
 use Rattle.dwc_dwarf.specs.Values.{location_reference, range_reference}
 use Rattle.dwc_output.specs.TreeReading.{ListReading, output_lists}
-use Rattle.dwc_write.specs.declared.attributes.Attribute.{Attribute}
-use Rattle.dwc_write.specs.declared.attributes.AttributeValue.{AttributeValue}
-use Rattle.dwc_write.specs.declared.attributes.AttributeValue.TheVariants.{Address, Constant, Flag, Block, Exprloc, StringRef, LineProgramRef, RangeListRef, LocationListRef, UnitRef, DebugInfoRef}
-use Rattle.dwc_write.specs.declared.list_places.ListPlaces.{ListPlaces}
-use Rattle.dwc_write.specs.GivenUnits.{GivenEntry, FitsAttribute, FitsEntry, FitsValue, lists_of_entries}
-use Rattle.dwc_write.specs.RangeLists.{interval_of}
-use Rattle.dwc_write.specs.Lists.{ListEntry, IsShort, behind_lists, list_bytes, list_fields, list_length, listed_bytes, listed_fields, lists_of_attributes, location_of, locations_in, ranges_in}
-use Rattle.dwc_write.specs.SpelledAddresses.{AddressField, IsHeld}
+use Rattle.dwc_unit.specs.declared.attributes.Attribute.{Attribute}
+use Rattle.dwc_unit.specs.declared.attributes.AttributeValue.{AttributeValue}
+use Rattle.dwc_unit.specs.declared.attributes.AttributeValue.TheVariants.{Address, Constant, Flag, Block, Exprloc, StringRef, LineProgramRef, RangeListRef, LocationListRef, UnitRef, DebugInfoRef}
+use Rattle.dwc_unit.specs.declared.lists.ListPlaces.{ListPlaces}
+use Rattle.dwc_unit.specs.GivenUnits.{GivenEntry, FitsAttribute, FitsEntry, FitsValue, lists_of_entries}
+use Rattle.dwc_unit.specs.RangeLists.{interval_of}
+use Rattle.dwc_unit.specs.Lists.{ListEntry, IsShort, behind_lists, list_bytes, list_fields, list_length, listed_bytes, listed_fields, lists_of_attributes, location_of, locations_in, ranges_in}
+use Rattle.dwc_section.specs.SpelledAddresses.{AddressField, IsHeld}
 use Rattle.dwc_write.proofs.ListPlaces.{attributes-behind, list-length}
 use Rattle.dwc_write.proofs.ReadLists.{locations-read, ranges-read}
-use Rattle.dwc_write.proofs.ReadRelocations.{at_places-append}
-use Rattle.dwc_write.proofs.ReadValues.{All-back, All-front}
+use Rattle.dwc_unit.proofs.RowFields.{at_places-append}
+use Rattle.dwc_unit.proofs.ReadValues.{All-back, All-front}
 
 -- ---- what is read of lists
 

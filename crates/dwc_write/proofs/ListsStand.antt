@@ -7,9 +7,9 @@ use Rattle.dwc_base.specs.declared.section_name.SectionName.{SectionName}
 use Rattle.dwc_base.specs.declared.section_name.SectionName.TheVariants.{Loc, Ranges}
 use Rattle.dwc_base.specs.Sections.{Sections, Relocation}
 use Rattle.dwc_base.specs.Outputs.{function_relocation, output_sections}
-use Rattle.dwc_write.specs.GivenUnits.{OrderedUnit, AreShortUnits, FitsOrdered, HaveShortLists, lists_of_entries, lists_of_units, size_of}
-use Rattle.dwc_write.specs.Lists.{ListEntry, FitsListed, list_bytes, list_fields, list_relocations, locations_in, ranges_in}
-use Rattle.dwc_write.specs.SpelledAddresses.{IsHeld}
+use Rattle.dwc_unit.specs.GivenUnits.{OrderedUnit, AreShortUnits, FitsOrdered, HaveShortLists, lists_of_entries, lists_of_units, size_of}
+use Rattle.dwc_unit.specs.Lists.{ListEntry, FitsListed, list_bytes, list_fields, list_relocations, locations_in, ranges_in}
+use Rattle.dwc_section.specs.SpelledAddresses.{IsHeld}
 use Rattle.dwc_write.specs.SpelledOutput.{spelled_sections}
 use Rattle.dwc_write.proofs.ListsFit.{HasShort, ranges-fit}
 use Rattle.dwc_write.proofs.ListsGiven.{StandThere}

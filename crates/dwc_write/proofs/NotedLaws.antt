@@ -6,21 +6,21 @@ use Rattle.std.specs.List.{All, AllZip, list_all}
 use Rattle.std.proofs.lemmas.Bool.{and_parts}
 use Rattle.std.proofs.lemmas.List.{drop_more, map-append}
 use Rattle.std.proofs.lemmas.List.Elements.{All-append, All-cons, All-nil}
-use Rattle.dwc_write.specs.declared.attributes.Attribute.{Attribute}
-use Rattle.dwc_write.specs.declared.attributes.AttributeValue.{AttributeValue}
-use Rattle.dwc_write.specs.declared.attributes.AttributeValue.TheVariants.{Address, Constant, Flag, Block, Exprloc, StringRef, LineProgramRef, RangeListRef, LocationListRef, UnitRef, DebugInfoRef}
-use Rattle.dwc_write.specs.declared.file_order.FilePlace.{FilePlace}
+use Rattle.dwc_unit.specs.declared.attributes.Attribute.{Attribute}
+use Rattle.dwc_unit.specs.declared.attributes.AttributeValue.{AttributeValue}
+use Rattle.dwc_unit.specs.declared.attributes.AttributeValue.TheVariants.{Address, Constant, Flag, Block, Exprloc, StringRef, LineProgramRef, RangeListRef, LocationListRef, UnitRef, DebugInfoRef}
+use Rattle.dwc_unit.specs.declared.file_order.FilePlace.{FilePlace}
 use Rattle.dwc_write.specs.declared.layout.UnitLayout.{UnitLayout}
-use Rattle.dwc_write.specs.declared.lists.ListKind.{ListKind}
-use Rattle.dwc_write.specs.declared.lists.ListKind.TheVariants.{Ranges, Locations}
+use Rattle.dwc_unit.specs.declared.lists.ListKind.{ListKind}
+use Rattle.dwc_unit.specs.declared.lists.ListKind.TheVariants.{Ranges, Locations}
 use Rattle.dwc_write.specs.declared.notes.Notes.{Notes}
-use Rattle.dwc_write.specs.FileOrders.{looked_up}
-use Rattle.dwc_write.specs.GivenUnits.{Addition, GivenEntry, GivenUnit, lists_of_entries, ordered}
+use Rattle.dwc_unit.specs.FileOrders.{looked_up}
+use Rattle.dwc_unit.specs.GivenUnits.{Addition, GivenEntry, GivenUnit, lists_of_entries, ordered}
 use Rattle.dwc_write.specs.LayoutViews.{AreListed, IsLaidOut, IsNoting, texts_noted}
-use Rattle.dwc_write.specs.Lists.{lists_by, lists_of_attributes}
+use Rattle.dwc_unit.specs.Lists.{lists_by, lists_of_attributes}
 use Rattle.dwc_write.specs.Noted.{are_free, if_listed, is_free, listed_among}
 use Rattle.dwc_write.specs.ShortLists.{are_short_values, is_short_unit, is_short_value}
-use Rattle.dwc_write.specs.UsedTexts.{text_of_value, texts_named, texts_of_attributes, texts_of_entries}
+use Rattle.dwc_unit.specs.UsedTexts.{text_of_value, texts_named, texts_of_attributes, texts_of_entries}
 
 and_assoc : (x y z : Bool) → ((x && y) && z) ≡ (x && (y && z))
 and_assoc true y z = refl

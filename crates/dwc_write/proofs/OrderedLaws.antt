@@ -5,10 +5,10 @@ use Rattle.std.specs.List.{All}
 use Rattle.std.proofs.lemmas.Bool.{eqb-true, eqb-false}
 use Rattle.std.proofs.lemmas.List.{get_or-map}
 use Rattle.std.proofs.lemmas.List.Elements.{All-head, All-tail, All-cons, All-nil, All-append}
-use Rattle.dwc_write.specs.declared.list_places.ListPlaces.{ListPlaces}
-use Rattle.dwc_write.specs.SpelledUnits.{shaped}
-use Rattle.dwc_write.specs.declared.attributes.Attribute.{Attribute}
-use Rattle.dwc_write.specs.GivenUnits.{Addition, EntryShape, GivenEntry, GivenUnit, Places, written_entries, entry_at, below, in_file_order, ordered, FitsAddition, FitsGivenUnit, FitsEntry, FitsOrdered, AreBelow, IsTree, IsRooted}
+use Rattle.dwc_unit.specs.declared.lists.ListPlaces.{ListPlaces}
+use Rattle.dwc_unit.specs.SpelledUnits.{shaped}
+use Rattle.dwc_unit.specs.declared.attributes.Attribute.{Attribute}
+use Rattle.dwc_unit.specs.GivenUnits.{Addition, EntryShape, GivenEntry, GivenUnit, Places, written_entries, entry_at, below, in_file_order, ordered, FitsAddition, FitsGivenUnit, FitsEntry, FitsOrdered, AreBelow, IsTree, IsRooted}
 
 -- ---- attributes
 
@@ -133,9 +133,9 @@ unit-seen us i u within is = get_or-map ordered us i u (ordered u) within ∙ ap
 -- ---- entries that were all added below the root, without a number reserved before
 
 -- the children of the root, from a place on
-abbrev pub listed : ℕ → List Addition → List GivenEntry
-listed place [] = []
-listed place (e ∷ es) = entry_at 1 place e ∷ listed (suc place) es
+abbrev pub siblings : ℕ → List Addition → List GivenEntry
+siblings place [] = []
+siblings place (e ∷ es) = entry_at 1 place e ∷ siblings (suc place) es
 
 below-none : (depth parent place : ℕ) (es : List Addition) → 0 < parent → All (λ e. e.parent ≡ 0) es → below depth parent place es ≡ []
 below-none depth parent place [] some all = refl
@@ -147,14 +147,14 @@ below-none depth parent place (e ∷ es) some all =
     go true is root none = let same = eqb-true e.parent parent is in absurd (omega (arith, same, root, some))
     go false is root none = none
 
-pub below-listed : (place : ℕ) (es : List Addition) → 0 < place → All (λ e. e.parent ≡ 0) es → below 1 0 place es ≡ listed place es
+pub below-listed : (place : ℕ) (es : List Addition) → 0 < place → All (λ e. e.parent ≡ 0) es → below 1 0 place es ≡ siblings place es
 below-listed place [] some all = refl
 below-listed place (e ∷ es) some all =
     let root = All-head (λ (x : Addition). x.parent ≡ 0) e es all in
     let others = All-tail (λ (x : Addition). x.parent ≡ 0) e es all in
     go (eqb e.parent 0) refl root (below-none 2 place (suc place) es some others) (below-listed (suc place) es (omega arith) others)
   where
-    go : (b : Bool) → eqb e.parent 0 ≡ b → e.parent ≡ 0 → below 2 place (suc place) es ≡ [] → below 1 0 (suc place) es ≡ listed (suc place) es → (if b then entry_at 1 place e ∷ (below 2 place (suc place) es ++ below 1 0 (suc place) es) else below 1 0 (suc place) es) ≡ entry_at 1 place e ∷ listed (suc place) es
+    go : (b : Bool) → eqb e.parent 0 ≡ b → e.parent ≡ 0 → below 2 place (suc place) es ≡ [] → below 1 0 (suc place) es ≡ siblings (suc place) es → (if b then entry_at 1 place e ∷ (below 2 place (suc place) es ++ below 1 0 (suc place) es) else below 1 0 (suc place) es) ≡ entry_at 1 place e ∷ siblings (suc place) es
     go true is root none rest = rw (none) (ap (λ xs. entry_at 1 place e ∷ xs) rest)
     go false is root none rest = absurd (eqb-false e.parent 0 is root)
 

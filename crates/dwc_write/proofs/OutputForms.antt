@@ -11,7 +11,7 @@ use Rattle.dwc_base.specs.declared.section_name.SectionName.TheVariants.{Abbrev,
 use Rattle.dwc_base.specs.Sections.{section_text}
 use Rattle.dwc_base.specs.Outputs.{OutputRelocation, OutputSection}
 use Rattle.dwc_output.specs.OutputForm.{HasDistinctNames}
-use Rattle.dwc_write.specs.GivenUnits.{OrderedUnit}
+use Rattle.dwc_unit.specs.GivenUnits.{OrderedUnit}
 use Rattle.dwc_write.specs.SpelledOutput.{section_unless_empty, spelled_sections}
 
 -- what holds of a section that is written, and of the others

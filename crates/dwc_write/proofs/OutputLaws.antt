@@ -8,24 +8,25 @@ use Rattle.dwc_base.specs.declared.records.Endian.{Endian}
 use Rattle.dwc_base.specs.declared.section_name.SectionName.{SectionName}
 use Rattle.dwc_base.specs.declared.section_name.SectionName.TheVariants.{Abbrev, Info, Line, Loc, Ranges, Str}
 use Rattle.dwc_base.specs.Outputs.{OutputRelocation, OutputSection}
-use Rattle.dwc_write.specs.declared.error.WriteError.{WriteError}
-use Rattle.dwc_write.specs.Spelled.{at_places}
-use Rattle.dwc_write.specs.SpelledTables.{table_bytes}
+use Rattle.dwc_section.specs.declared.error.WriteError.{WriteError}
+use Rattle.dwc_section.specs.Spelled.{at_places}
+use Rattle.dwc_unit.specs.SpelledTables.{table_bytes}
 use Rattle.dwc_write.specs.SpelledSections.{placed_unit_bytes, tables_bytes, info_bytes, one_table_bytes, lines_bytes}
-use Rattle.dwc_write.specs.SpelledRelocations.{unit_relocations, info_relocations, one_table_relocations, lines_relocations, RelocationsRise, DoRelocationsRise}
+use Rattle.dwc_write.specs.SpelledRelocations.{unit_relocations, info_relocations, one_table_relocations, lines_relocations}
+use Rattle.dwc_section.specs.RisingRelocations.{RelocationsRise, DoRelocationsRise}
 use Rattle.dwc_write.proofs.ReadRelocations.{info-rise, lines-rise, rise-above}
-use Rattle.dwc_write.specs.GivenUnits.{GivenEntry, OrderedUnit, Places, IsWritable, size_of, AreWritable, behind_entries, lists_of_entries, lists_of_units}
-use Rattle.dwc_write.specs.declared.attributes.AttributeValue.{AttributeValue}
-use Rattle.dwc_write.specs.declared.list_places.ListPlaces.{ListPlaces}
-use Rattle.dwc_write.specs.Lists.{ListEntry, AreWithin, list_bytes, list_relocations, listed_bytes, listed_relocations, locations_in, ranges_in}
+use Rattle.dwc_unit.specs.GivenUnits.{GivenEntry, OrderedUnit, Places, IsWritable, size_of, AreWritable, behind_entries, lists_of_entries, lists_of_units}
+use Rattle.dwc_unit.specs.declared.attributes.AttributeValue.{AttributeValue}
+use Rattle.dwc_unit.specs.declared.lists.ListPlaces.{ListPlaces}
+use Rattle.dwc_unit.specs.Lists.{ListEntry, AreWithin, list_bytes, list_relocations, listed_bytes, listed_relocations, locations_in, ranges_in}
 use Rattle.dwc_write.proofs.ListPlaces.{entries-behind, places-equal}
 use Rattle.dwc_write.proofs.RelatedLists.{list-rise}
 use Rattle.dwc_write.specs.Layouts.{AllPlaces, offsets_by_number, places_in, behind_unit, written_lines, written_unit, written_units, written_tables}
-use Rattle.dwc_write.specs.UsedTexts.{strings_bytes}
-use Rattle.dwc_write.specs.Writers.{Writing, Refuses, Writes, IsSound, appended, most_bytes}
+use Rattle.dwc_unit.specs.UsedTexts.{strings_bytes}
+use Rattle.dwc_section.specs.Writers.{Writing, Refuses, Writes, IsSound, appended, most_bytes}
 use Rattle.dwc_write.specs.SpelledOutput.{section_unless_empty, sections_of, sections_placed, units_placed, all_places, spelled_sections, unit_of, WritesUnit, WrittenSections, places_there, lists_there, lists_bytes, with_lists, WritesLists, unit_in, with_unit, RefusesUnit, WritesOne, empty_section, with_units, all_units, IsRefusalAmong, IsRefusal, bytes_of, abbrev_bytes, all_info_bytes, all_lines_bytes, all_lists_bytes, all_lists_relocations, section_bytes}
-use Rattle.dwc_write.proofs.RefusalLaws.{past-among, past-more, refusal-weaker, size-refusal}
-use Rattle.dwc_write.proofs.WritesLaws.{refused-longer, refused-later, appended-twice, appended-nothing, length-behind}
+use Rattle.dwc_section.proofs.RefusalLaws.{past-among, past-more, refusal-weaker, size-refusal}
+use Rattle.dwc_section.proofs.WritesLaws.{refused-longer, refused-later, appended-twice, appended-nothing, length-behind}
 
 -- ---- one unit
 

@@ -12,20 +12,20 @@ use Rattle.dwc_dwarf.specs.Entries.{Entry}
 use Rattle.dwc_dwarf.specs.ReadUnits.{Unit as ReadUnit}
 use Rattle.dwc_dwarf.specs.Trees.{place_among}
 use Rattle.dwc_base.specs.NumberBytes.{number_bytes, uleb_bytes}
-use Rattle.dwc_write.specs.Spelled.{at_places}
-use Rattle.dwc_write.specs.SpelledTables.{table_bytes}
-use Rattle.dwc_write.specs.SpelledUnits.{WrittenEntry, written_bytes, attribute_bytes, next_depth, Shaped, shaped, entry_bytes, entries_bytes, read_entry, header_length, unit_body}
+use Rattle.dwc_section.specs.Spelled.{at_places}
+use Rattle.dwc_unit.specs.SpelledTables.{table_bytes}
+use Rattle.dwc_unit.specs.SpelledUnits.{WrittenEntry, written_bytes, attribute_bytes, next_depth, Shaped, shaped, entry_bytes, entries_bytes, read_entry, header_length, unit_body}
 use Rattle.dwc_write.specs.SpelledSections.{placed_unit_bytes, info_bytes, lines_bytes}
-use Rattle.dwc_write.specs.declared.attributes.Attribute.{Attribute}
-use Rattle.dwc_write.specs.declared.attributes.AttributeValue.{AttributeValue}
-use Rattle.dwc_write.specs.declared.attributes.AttributeValue.TheVariants.{Address, Constant, Flag, Block, Exprloc, StringRef, LineProgramRef, RangeListRef, LocationListRef, UnitRef, DebugInfoRef}
-use Rattle.dwc_write.specs.declared.attributes.DebugInfoRef.TheVariants.{Entry as entry_of}
-use Rattle.dwc_write.specs.GivenUnits.{GivenEntry, OrderedUnit, Places, no_places, EntryShape, place_of, shape_of, code_in, numbered, shapes_in, written_of, written_attribute, written_attributes, written_entries}
-use Rattle.dwc_write.specs.declared.list_places.ListPlaces.{ListPlaces}
-use Rattle.dwc_write.specs.Lists.{behind_attributes, no_lists, nowhere}
-use Rattle.dwc_write.specs.GivenTrees.{place_in_order}
+use Rattle.dwc_unit.specs.declared.attributes.Attribute.{Attribute}
+use Rattle.dwc_unit.specs.declared.attributes.AttributeValue.{AttributeValue}
+use Rattle.dwc_unit.specs.declared.attributes.AttributeValue.TheVariants.{Address, Constant, Flag, Block, Exprloc, StringRef, LineProgramRef, RangeListRef, LocationListRef, UnitRef, DebugInfoRef}
+use Rattle.dwc_unit.specs.declared.attributes.DebugInfoRef.TheVariants.{Entry as entry_of}
+use Rattle.dwc_unit.specs.GivenUnits.{GivenEntry, OrderedUnit, Places, no_places, EntryShape, place_of, shape_of, code_in, numbered, shapes_in, written_of, written_attribute, written_attributes, written_entries}
+use Rattle.dwc_unit.specs.declared.lists.ListPlaces.{ListPlaces}
+use Rattle.dwc_unit.specs.Lists.{behind_attributes, no_lists, nowhere}
+use Rattle.dwc_unit.specs.GivenTrees.{place_in_order}
 use Rattle.dwc_write.specs.Layouts.{AllPlaces, entry_offsets, unit_length, offset_among, offset_if_added, offsets_by_number, places_of_units, offset_in_section, places_in, behind_unit, written_unit, written_lines, written_units}
-use Rattle.dwc_write.proofs.ReadNumbers.{number_bytes-length, uleb_bytes-small, uleb_bytes-more}
+use Rattle.dwc_section.proofs.ReadNumbers.{number_bytes-length, uleb_bytes-small, uleb_bytes-more}
 use Rattle.dwc_write.proofs.EntriesLaws.{next-first}
 
 -- ---- lengths do not hang on places

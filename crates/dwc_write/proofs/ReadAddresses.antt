@@ -7,8 +7,8 @@ use Rattle.std.proofs.lemmas.Bool.{ne_eqb, eq-eqb}
 use Rattle.std.proofs.lemmas.List.Elements.{All-nil, All-cons, All-weaker}
 use Rattle.dwc_base.specs.declared.records.Address.{Address}
 use Rattle.dwc_base.specs.declared.records.Address.TheVariants.{Constant, Symbol}
-use Rattle.dwc_write.specs.Spelled.{at_places}
-use Rattle.dwc_write.specs.SpelledAddresses.{AddressField, relocation_for, relocations_of, IsHeld, RiseWithin}
+use Rattle.dwc_section.specs.Spelled.{at_places}
+use Rattle.dwc_section.specs.SpelledAddresses.{AddressField, relocation_for, relocations_of, IsHeld, RiseWithin}
 
 -- a relocation of a later field is none at a place before
 none-before : (low high offset size : ℕ) (fs : List AddressField) → offset < low → RiseWithin low high fs → find (λ r. (r.offset == offset) && (r.size == size)) (relocations_of fs) ≡ None

@@ -21,38 +21,40 @@ use Rattle.dwc_dwarf.specs.Entries.{Entry, attribute}
 use Rattle.dwc_dwarf.specs.ReadUnits.{Unit, units, root, line_offset, table_of_root, table_of_unit}
 use Rattle.dwc_base.specs.Outputs.{OutputRelocation, OutputSection, output_sections}
 use Rattle.dwc_base.specs.NumberBytes.{number_bytes}
-use Rattle.dwc_write.specs.Spelled.{at_places}
-use Rattle.dwc_write.specs.SpelledTables.{FitsSpec, FitsDeclaration, AreNumbered, table_bytes}
-use Rattle.dwc_write.specs.SpelledUnits as spelled
-use Rattle.dwc_write.specs.SpelledUnits.{Written, as_addr, as_data1, as_data2, as_data4, as_data8, as_udata, as_sdata, form_number, FitsWritten, written_value, WrittenAttribute, spec_of, WrittenEntry, Shaped, next_depth, shaped, declaration_for, entry_bytes, entries_bytes, read_entry, read_entries, header_length, unit_body}
-use Rattle.dwc_write.specs.SpelledLines.{FitsSequence, WrittenSequence, line_body, sequences_instructions, read_segment}
+use Rattle.dwc_section.specs.Spelled.{at_places}
+use Rattle.dwc_unit.specs.SpelledTables.{FitsSpec, FitsDeclaration, AreNumbered, table_bytes}
+use Rattle.dwc_unit.specs.SpelledUnits as spelled
+use Rattle.dwc_unit.specs.SpelledUnits.{Written, as_addr, as_data1, as_data2, as_data4, as_data8, as_udata, as_sdata, form_number, FitsWritten, written_value, WrittenAttribute, spec_of, WrittenEntry, Shaped, next_depth, shaped, declaration_for, entry_bytes, entries_bytes, read_entry, read_entries, header_length, unit_body}
+use Rattle.dwc_unit.specs.SpelledLines.{FitsSequence, WrittenSequence, line_body, sequences_instructions, read_segment}
 use Rattle.dwc_write.specs.SpelledSections.{WrittenUnit, placed_unit_bytes, tables_bytes, info_bytes, read_unit, read_units, FitsUnit, AreTablesFrom, WrittenTable, one_table_bytes, lines_bytes, PlacedTable, placed_tables, read_table, FitsTable}
 use Rattle.dwc_write.specs.SpelledRelocations.{info_relocations, lines_relocations}
-use Rattle.dwc_write.specs.declared.attributes.Attribute.{Attribute}
-use Rattle.dwc_write.specs.declared.attributes.AttributeValue.{AttributeValue}
-use Rattle.dwc_write.specs.declared.attributes.AttributeValue.TheVariants.{Address, Constant, Flag, Block, Exprloc, StringRef, LineProgramRef, RangeListRef, LocationListRef, UnitRef, DebugInfoRef}
-use Rattle.dwc_write.specs.declared.attributes.DebugInfoRef.TheVariants.{Entry as entry_of}
-use Rattle.dwc_write.specs.declared.abbreviations.AttributeForm.{AttributeForm}
-use Rattle.dwc_write.specs.GivenLines.{GivenLines, FitsLines, FitsSequences, FitsGivenSequence}
-use Rattle.dwc_write.specs.GivenUnits.{GivenEntry, OrderedUnit, Places, no_places, IsOfSize, written_of, FitsValue, FitsAttribute, FitsMemory, AreBelow, IsTree, FitsEntry, FitsOrdered, is_lines, names_lines_in, names_lines, IsWritable, size_of, AreWritable, EntryShape, form_of, forms_of, shape_of, shapes_of, same_shape, place_in, with_use, first_uses, code_in, spec_of_form, numbered, shapes_in, written_attribute, written_attributes, written_entries, behind_entries, lists_of_entries, lists_of_units}
+use Rattle.dwc_unit.specs.declared.attributes.Attribute.{Attribute}
+use Rattle.dwc_unit.specs.declared.attributes.AttributeValue.{AttributeValue}
+use Rattle.dwc_unit.specs.declared.attributes.AttributeValue.TheVariants.{Address, Constant, Flag, Block, Exprloc, StringRef, LineProgramRef, RangeListRef, LocationListRef, UnitRef, DebugInfoRef}
+use Rattle.dwc_unit.specs.declared.attributes.DebugInfoRef.TheVariants.{Entry as entry_of}
+use Rattle.dwc_unit.specs.declared.attributes.AttributeForm.{AttributeForm}
+use Rattle.dwc_unit.specs.GivenLines.{GivenLines, FitsLines, FitsSequences, FitsGivenSequence}
+use Rattle.dwc_unit.specs.GivenUnits.{GivenEntry, OrderedUnit, Places, no_places, IsOfSize, written_of, FitsValue, FitsAttribute, FitsMemory, AreBelow, IsTree, FitsEntry, FitsOrdered, is_lines, names_lines_in, names_lines, IsWritable, size_of, AreWritable, EntryShape, form_of, forms_of, shape_of, shapes_of, same_shape, place_in, with_use, first_uses, code_in, spec_of_form, numbered, shapes_in, written_attribute, written_attributes, written_entries, behind_entries, lists_of_entries, lists_of_units}
 use Rattle.dwc_write.specs.Layouts.{AllPlaces, AreShort, offset_of_text, offsets_by_number, offset_in_section, places_in, unit_length, behind_unit, written_unit, written_lines, written_units, written_tables}
-use Rattle.dwc_write.specs.UsedTexts.{strings_bytes}
+use Rattle.dwc_unit.specs.UsedTexts.{strings_bytes}
 use Rattle.dwc_write.specs.SpelledOutput.{section_unless_empty, abbrev_bytes, all_info_bytes, all_lines_bytes, all_lists_bytes, all_lists_relocations, units_placed, all_places, spelled_sections}
-use Rattle.dwc_write.specs.ReadBack.{given_file, given_row, given_segment, Contents, read_contents, given_contents, given_value, given_values, ReadsLines, IsReadUnit, ReadsBack}
-use Rattle.dwc_write.specs.Writers.{IsSound, most_bytes}
+use Rattle.dwc_write.specs.ReadBack.{Contents, read_contents, given_contents, given_value, given_values, ReadsLines, IsReadUnit, ReadsBack}
+use Rattle.dwc_unit.specs.GivenSegments.{given_file, given_row, given_segment}
+use Rattle.dwc_section.specs.Writers.{IsSound, most_bytes}
 use Rattle.dwc_write.proofs.ShapeLaws.{same_shape-equal}
-use Rattle.dwc_write.proofs.ReadNumbers.{number_bytes-length}
+use Rattle.dwc_section.proofs.ReadNumbers.{number_bytes-length}
 use Rattle.dwc_write.proofs.ReadTexts.{offset-bound}
 use Rattle.dwc_write.proofs.ReadTables.{numbered-found}
-use Rattle.dwc_write.proofs.ReadRelocations.{info-functions, lines-functions, at_places-append}
-use Rattle.dwc_write.specs.declared.list_places.ListPlaces.{ListPlaces}
-use Rattle.dwc_write.specs.Lists.{ListEntry, AreWithin, behind_attributes, behind_value, list_bytes, list_relocations, listed_bytes, locations_in, no_lists, ranges_in}
+use Rattle.dwc_write.proofs.ReadRelocations.{info-functions, lines-functions}
+use Rattle.dwc_unit.proofs.RowFields.{at_places-append}
+use Rattle.dwc_unit.specs.declared.lists.ListPlaces.{ListPlaces}
+use Rattle.dwc_unit.specs.Lists.{ListEntry, AreWithin, behind_attributes, behind_value, list_bytes, list_relocations, listed_bytes, locations_in, no_lists, ranges_in}
 use Rattle.dwc_write.proofs.ListPlaces.{both-length, entries-behind, listed-length, places_behind, within-attributes, within-entries}
 use Rattle.dwc_write.proofs.SectionsHold.{Holds, sections-hold}
-use Rattle.dwc_write.proofs.ReadValues.{All-back}
-use Rattle.dwc_write.proofs.ReadLines.{line-table-segments}
+use Rattle.dwc_unit.proofs.ReadValues.{All-back}
+use Rattle.dwc_unit.proofs.ReadLines.{line-table-segments}
 use Rattle.dwc_write.proofs.ReadSections.{IsReadAt, units-read, lines-read, unit-table-read}
-use Rattle.dwc_write.proofs.LineLaws.{field-address}
+use Rattle.dwc_unit.proofs.LineLaws.{field-address}
 use Rattle.dwc_write.proofs.EntriesLaws.{code-there, next-first}
 use Rattle.dwc_write.proofs.PlacedEntries.{placed-length, offset-within, places-short, info-length}
 

@@ -17,14 +17,14 @@ use Rattle.dwc_base.specs.Outputs.{OutputRelocation}
 use Rattle.dwc_output.specs.Fields.{Field, fields_read, field_of_value, fields_at, fields_of_entry, field_of_table, fields_of_entries, fields_of_unit, relocation_of, relocations_of_fields}
 use Rattle.dwc_base.specs.Spelling.{unread_at}
 use Rattle.dwc_base.specs.NumberBytes.{number_bytes, uleb_bytes}
-use Rattle.dwc_write.specs.Spelled.{at_places}
-use Rattle.dwc_write.specs.SpelledAddresses.{IsHeld}
-use Rattle.dwc_write.specs.SpelledUnits.{Written, as_addr, as_data1, as_data2, as_data4, as_data8, as_udata, as_sdata, as_flag, as_block, as_exprloc, as_strp, as_ref4, as_ref_addr, as_sec_offset, form_number, FitsWritten, written_value, value_fields, WrittenAttribute, spec_of, attribute_bytes, Shaped, shaped, entry_bytes, entry_fields, entries_bytes, read_entry, FitsEntry, unit_body, header_length, read_header}
+use Rattle.dwc_section.specs.Spelled.{at_places}
+use Rattle.dwc_section.specs.SpelledAddresses.{IsHeld}
+use Rattle.dwc_unit.specs.SpelledUnits.{Written, as_addr, as_data1, as_data2, as_data4, as_data8, as_udata, as_sdata, as_flag, as_block, as_exprloc, as_strp, as_ref4, as_ref_addr, as_sec_offset, form_number, FitsWritten, written_value, value_fields, WrittenAttribute, spec_of, attribute_bytes, Shaped, shaped, entry_bytes, entry_fields, entries_bytes, read_entry, FitsEntry, unit_body, header_length, read_header}
 use Rattle.dwc_write.specs.SpelledSections.{WrittenUnit, placed_unit_bytes, info_bytes, unit_fields, info_fields, read_unit, read_units, FitsUnit}
 use Rattle.dwc_write.specs.SpelledRelocations.{value_relocations, entry_relocations, unit_relocations, info_relocations}
-use Rattle.dwc_write.proofs.ReadNumbers.{number_bytes-length}
-use Rattle.dwc_write.proofs.ReadParts.{Spells-uleb_bytes}
-use Rattle.dwc_write.proofs.ReadValues.{value-reads, All-front, All-back}
+use Rattle.dwc_section.proofs.ReadNumbers.{number_bytes-length}
+use Rattle.dwc_unit.proofs.ReadParts.{Spells-uleb_bytes}
+use Rattle.dwc_unit.proofs.ReadValues.{value-reads, All-front, All-back}
 
 -- ---- fields one behind another
 

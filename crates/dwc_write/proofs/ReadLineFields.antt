@@ -20,25 +20,25 @@ use Rattle.dwc_dwarf.specs.ReadUnits.{root, line_offset}
 use Rattle.dwc_output.specs.Fields.{Field, an_address, field_of_instruction, fields_of_instructions, fields_of_line_table, fields_of_lines, relocation_of, relocations_of_fields}
 use Rattle.dwc_base.specs.Spelling.{unread_at}
 use Rattle.dwc_base.specs.NumberBytes.{uleb_bytes}
-use Rattle.dwc_write.specs.Spelled.{at_places}
-use Rattle.dwc_write.specs.SpelledAddresses.{AddressField, address_bytes, stored, IsHeld}
-use Rattle.dwc_write.specs.SpelledUnits.{written_value, WrittenAttribute, header_length, read_entries}
-use Rattle.dwc_write.specs.SpelledLines.{FitsInstruction, instruction_bytes, instruction_fields, program_bytes, program_fields, program_place, read_line_header, WrittenSequence, first_row, sequence_instructions, sequences_instructions}
+use Rattle.dwc_section.specs.Spelled.{at_places}
+use Rattle.dwc_section.specs.SpelledAddresses.{AddressField, address_bytes, stored, IsHeld}
+use Rattle.dwc_unit.specs.SpelledUnits.{written_value, WrittenAttribute, header_length, read_entries}
+use Rattle.dwc_unit.specs.SpelledLines.{FitsInstruction, instruction_bytes, instruction_fields, program_bytes, program_fields, program_place, read_line_header, WrittenSequence, first_row, sequence_instructions, sequences_instructions}
 use Rattle.dwc_write.specs.SpelledSections.{placed_unit_bytes, read_unit, read_units, WrittenTable, one_table_bytes, lines_bytes, one_table_fields, lines_fields, PlacedTable, placed_tables, FitsTable}
 use Rattle.dwc_write.specs.SpelledRelocations.{sequence_bytes, sequence_relocations, sequences_relocations, one_table_relocations, lines_relocations}
-use Rattle.dwc_write.specs.SpelledTables.{table_bytes}
-use Rattle.dwc_write.specs.Writers.{address_relocations}
-use Rattle.dwc_write.specs.GivenLines.{GivenLines}
-use Rattle.dwc_write.specs.GivenUnits.{GivenEntry, OrderedUnit, Places, FitsEntry, IsTree, names_lines, IsWritable, FitsOrdered, shapes_in, written_attributes, written_entries}
-use Rattle.dwc_write.specs.declared.list_places.ListPlaces.{ListPlaces}
-use Rattle.dwc_write.specs.Lists.{behind_attributes}
+use Rattle.dwc_unit.specs.SpelledTables.{table_bytes}
+use Rattle.dwc_section.specs.Writers.{address_relocations}
+use Rattle.dwc_unit.specs.GivenLines.{GivenLines}
+use Rattle.dwc_unit.specs.GivenUnits.{GivenEntry, OrderedUnit, Places, FitsEntry, IsTree, names_lines, IsWritable, FitsOrdered, shapes_in, written_attributes, written_entries}
+use Rattle.dwc_unit.specs.declared.lists.ListPlaces.{ListPlaces}
+use Rattle.dwc_unit.specs.Lists.{behind_attributes}
 use Rattle.dwc_write.specs.Layouts.{behind_unit, AllPlaces, offsets_by_number, places_in, written_lines, written_unit, written_units, written_tables}
-use Rattle.dwc_write.proofs.ReadNumbers.{number_bytes-length}
-use Rattle.dwc_write.proofs.ReadParts.{Spells-uleb_bytes}
-use Rattle.dwc_write.proofs.ReadValues.{All-front, All-back}
-use Rattle.dwc_write.proofs.ReadProgram.{instruction-reads, program-read}
-use Rattle.dwc_write.proofs.ReadLines.{header-read, sequences-fit}
-use Rattle.dwc_write.proofs.ReadRelocations.{rows-none, at_places-append}
+use Rattle.dwc_section.proofs.ReadNumbers.{number_bytes-length}
+use Rattle.dwc_unit.proofs.ReadParts.{Spells-uleb_bytes}
+use Rattle.dwc_unit.proofs.ReadValues.{All-front, All-back}
+use Rattle.dwc_unit.proofs.ReadProgram.{instruction-reads, program-read}
+use Rattle.dwc_unit.proofs.ReadLines.{header-read, sequences-fit}
+use Rattle.dwc_unit.proofs.RowFields.{rows-none, at_places-append}
 use Rattle.dwc_write.proofs.ReadFields.{places-related, stands-behind}
 use Rattle.dwc_write.proofs.ReadBackLaws.{attributes-read, named_offset, found_in, lines-named, lines_for, lines-are}
 

@@ -21,12 +21,12 @@ use Rattle.dwc_base.proofs.Spellings.{Spells-bytes}
 use Rattle.dwc_base.proofs.Takes.{Leaves-bind, Leaves-same, number_at-leaves}
 use Rattle.dwc_base.proofs.TakesMore.{Leaves-more}
 use Rattle.dwc_base.proofs.Walks.{GoesOn, walk-end, walk-item}
-use Rattle.dwc_write.specs.Spelled.{SpellsAt, at_places}
-use Rattle.dwc_write.specs.SpelledAddresses.{AddressField, IsHeld, address_bytes, FitsAddress}
-use Rattle.dwc_write.specs.RangeLists.{address_behind, is_symbol}
-use Rattle.dwc_write.specs.Lists.{ListEntry, end_of, ended, held_bytes, list_bytes, list_end, list_fields, listed_bytes, listed_fields}
-use Rattle.dwc_write.proofs.ReadParts.{behind, here, last, Spells-number_bytes}
-use Rattle.dwc_write.proofs.ReadValues.{address-reads, All-back, All-front}
+use Rattle.dwc_section.specs.Spelled.{SpellsAt, at_places}
+use Rattle.dwc_section.specs.SpelledAddresses.{AddressField, IsHeld, address_bytes, FitsAddress}
+use Rattle.dwc_unit.specs.RangeLists.{address_behind, is_symbol}
+use Rattle.dwc_unit.specs.Lists.{ListEntry, end_of, ended, held_bytes, list_bytes, list_end, list_fields, listed_bytes, listed_fields}
+use Rattle.dwc_unit.proofs.ReadParts.{behind, here, last, Spells-number_bytes}
+use Rattle.dwc_unit.proofs.ReadValues.{address-reads, All-back, All-front}
 
 -- ---- each entry takes a byte at least
 

@@ -22,13 +22,13 @@ use Rattle.dwc_base.specs.Units.{UnitHeader}
 use Rattle.dwc_dwarf.specs.Entries.{Entry}
 use Rattle.dwc_dwarf.specs.Values.{is_location_name, is_range_name, location_reference, range_reference, line_reference, dropped, section_offset}
 use Rattle.dwc_output.specs.TreeReading.{list_read, unreadable_list, ranges_read, location_said, locations_read}
-use Rattle.dwc_dwarf.specs.Lists.{list_source, list_of_value, ranges_at, ranges_of_value, ListRefusal, interval_given, base_behind, intervals_given, interval_between, ListedLocation, located, locations_at, locations_of_value}
+use Rattle.dwc_dwarf.specs.Lists.{list_source, list_of_value, ranges_at, ranges_of_value, ListRefusal, interval_given, base_behind, intervals_given, interval_between, ListedLocation, with_expression, locations_at, locations_of_value}
 use Rattle.dwc_base.specs.Spelling.{unread_at}
-use Rattle.dwc_write.specs.declared.expressions.Expression.{Expression}
-use Rattle.dwc_write.specs.Spelled.{at_places}
-use Rattle.dwc_write.specs.SpelledAddresses.{IsHeld}
-use Rattle.dwc_write.specs.RangeLists.{FitsRange, address_behind, interval_of, is_symbol}
-use Rattle.dwc_write.specs.Lists.{ListEntry, FitsLocation, IsShort, ended, list_bytes, list_fields, listed_bytes, location_entry, location_of, range_entry}
+use Rattle.dwc_unit.specs.declared.expressions.Expression.{Expression}
+use Rattle.dwc_section.specs.Spelled.{at_places}
+use Rattle.dwc_section.specs.SpelledAddresses.{IsHeld}
+use Rattle.dwc_unit.specs.RangeLists.{FitsRange, address_behind, interval_of, is_symbol}
+use Rattle.dwc_unit.specs.Lists.{ListEntry, FitsLocation, IsShort, ended, list_bytes, list_fields, listed_bytes, location_entry, location_of, range_entry}
 use Rattle.dwc_write.proofs.ReadListed.{ReadsEntries, list-walked, location-end, location-leaves, location-reads, location_at, pair-leaves, range-end, range-reads, raw_location, raw_pair}
 
 -- ---- what a list gives
@@ -192,7 +192,7 @@ module _ (s : Sections) (h : UnitHeader) (version : h.version ≡ 4) (some : 0 <
 
   -- what both parts of the entries give together
   abbrev given_both : ℕ → List ListEntry → List ListedLocation
-  given_both place es = filter_map located (zip (map (λ e. Some (interval e)) es) (map (λ r. r.holds) (raw_from place es)))
+  given_both place es = filter_map with_expression (zip (map (λ e. Some (interval e)) es) (map (λ r. r.holds) (raw_from place es)))
 
   both-given : (place : ℕ) (ls : List (Address × ℕ × Expression)) → map location_said (given_both place (map location_entry ls)) ≡ map location_of ls
   both-given place [] = refl

@@ -1,23 +1,23 @@
 -- The relocations of what is spelled rise, lie within what is spelled, and those of functions are the ones of its address fields.
-use Rattle.std.proofs.Common.{◌≡◌, ℕ, ◌+◌, ◌≤◌, refl, sym, ap, ◌∙◌, arith, List, [], ◌∷◌, ◌++◌, ◌⊎◌, inl, inr, append_assoc, append-nil, length, length-append, replicate, Bool, true, false}
-use Rattle.std.specs.Prelude.{◌==◌, not}
+use Rattle.std.proofs.Common.{◌≡◌, ℕ, ◌+◌, ◌≤◌, refl, sym, ap, ◌∙◌, arith, List, [], ◌∷◌, ◌++◌, ◌⊎◌, inl, inr, append_assoc, append-nil, length, length-append, replicate}
 use Rattle.std.specs.List.{All, flat_map, filter_map}
 use Rattle.std.proofs.lemmas.List.Elements.{All-append, All-cons, All-nil, All-weaker, filter_map-append}
 use Rattle.dwc_base.specs.declared.records.Endian.{Endian}
 use Rattle.dwc_base.specs.declared.records.Address.{Address}
 use Rattle.dwc_base.specs.declared.records.Address.TheVariants.{Constant, Symbol}
-use Rattle.dwc_base.specs.declared.records.LineRow.{LineRow}
-use Rattle.dwc_dwarf.specs.LineHeaders.{Instruction, set_address, copy, advance_pc, advance_line, set_file, set_column, negate_stmt, set_basic_block, set_prologue_end, set_epilogue_begin, set_isa, end_sequence, set_discriminator}
+use Rattle.dwc_dwarf.specs.LineHeaders.{set_address}
 use Rattle.dwc_base.specs.Outputs.{OutputRelocation, function_relocation}
 use Rattle.dwc_base.specs.NumberBytes.{number_bytes, uleb_bytes}
-use Rattle.dwc_write.specs.Spelled.{at_places}
-use Rattle.dwc_write.specs.SpelledAddresses.{AddressField, address_bytes, stored, relocation_for, relocations_of}
-use Rattle.dwc_write.specs.SpelledUnits.{Written, as_addr, as_strp, as_ref_addr, as_sec_offset, written_bytes, value_fields, WrittenAttribute, attribute_bytes, Shaped, shaped, entry_bytes, entry_fields, entries_bytes, header_length, unit_body}
-use Rattle.dwc_write.specs.SpelledLines.{instruction_bytes, instruction_fields, line_fields_bytes, program_bytes, program_fields, program_place, WrittenSequence, first_row, when, differs, row_instructions, rows_instructions, sequence_instructions, sequences_instructions, line_body}
+use Rattle.dwc_section.specs.Spelled.{at_places}
+use Rattle.dwc_section.specs.SpelledAddresses.{AddressField, address_bytes, stored, relocation_for, relocations_of}
+use Rattle.dwc_unit.specs.SpelledUnits.{Written, as_addr, as_strp, as_ref_addr, as_sec_offset, written_bytes, value_fields, WrittenAttribute, attribute_bytes, Shaped, shaped, entry_bytes, entry_fields, entries_bytes, header_length, unit_body}
+use Rattle.dwc_unit.specs.SpelledLines.{instruction_bytes, instruction_fields, line_fields_bytes, program_bytes, program_fields, program_place, WrittenSequence, first_row, rows_instructions, sequence_instructions, sequences_instructions, line_body}
 use Rattle.dwc_write.specs.SpelledSections.{WrittenUnit, placed_unit_bytes, info_bytes, unit_fields, info_fields, WrittenTable, one_table_bytes, lines_bytes, one_table_fields, lines_fields}
-use Rattle.dwc_write.specs.SpelledRelocations.{value_relocations, entry_relocations, entries_relocations, unit_relocations, info_relocations, sequence_bytes, sequence_relocations, sequences_relocations, one_table_relocations, lines_relocations, RelocationsRise}
-use Rattle.dwc_write.specs.Writers.{address_relocations, IsClear}
-use Rattle.dwc_write.proofs.ReadNumbers.{number_bytes-length}
+use Rattle.dwc_write.specs.SpelledRelocations.{value_relocations, entry_relocations, entries_relocations, unit_relocations, info_relocations, sequence_bytes, sequence_relocations, sequences_relocations, one_table_relocations, lines_relocations}
+use Rattle.dwc_section.specs.RisingRelocations.{RelocationsRise}
+use Rattle.dwc_section.specs.Writers.{address_relocations, IsClear}
+use Rattle.dwc_section.proofs.ReadNumbers.{number_bytes-length}
+use Rattle.dwc_unit.proofs.RowFields.{at_places-append, rows-none}
 
 -- ---- lists of relocations that rise
 
@@ -172,37 +172,6 @@ unit-functions order size place u =
 
 pub info-functions : (order : Endian) (size place : ℕ) (us : List WrittenUnit) → filter_map function_relocation (info_relocations order size place us) ≡ relocations_of (info_fields order size place us)
 info-functions order size place us = places-functions (placed_unit_bytes order size) (unit_relocations order size) (unit_fields order size) (unit-functions order size) us place
-
--- instructions without an address have no field
-pub at_places-append : {A B : Type 0} (spell : A → List ℕ) (at : ℕ → A → List B) (xs ys : List A) (place : ℕ) → at_places spell at place (xs ++ ys) ≡ at_places spell at place xs ++ at_places spell at (place + length (flat_map spell xs)) ys
-at_places-append spell at [] ys place = ap (λ p. at_places spell at p ys) (omega arith)
-at_places-append spell at (x ∷ xs) ys place =
-    ap (λ bs. at place x ++ bs) (at_places-append spell at xs ys (place + length (spell x)))
-    ∙ sym (append_assoc (at place x) _ _)
-    ∙ ap (λ p. (at place x ++ at_places spell at (place + length (spell x)) xs) ++ at_places spell at p ys) (omega (arith, length-append (spell x) (flat_map spell xs)))
-
-when-none : (order : Endian) (size : ℕ) (b : Bool) (i : Instruction) (is : List Instruction) → ((p : ℕ) → instruction_fields order size p i ≡ []) → ((p : ℕ) → program_fields order size p is ≡ []) → (p : ℕ) → program_fields order size p (when b i ++ is) ≡ []
-when-none order size true i is quiet others p = rw (quiet p) (others (p + length (instruction_bytes order size i)))
-when-none order size false i is quiet others p = others p
-
-pub row-none : (order : Endian) (size : ℕ) (before r : LineRow) (p : ℕ) → program_fields order size p (row_instructions before r) ≡ []
-row-none order size before r =
-    when-none order size (not (r.discriminator == 0)) (set_discriminator r.discriminator) _ (λ p. refl)
-    (when-none order size r.basic_block set_basic_block _ (λ p. refl)
-    (when-none order size r.prologue_end set_prologue_end _ (λ p. refl)
-    (when-none order size r.epilogue_begin set_epilogue_begin _ (λ p. refl)
-    (when-none order size (differs before.is_stmt r.is_stmt) negate_stmt _ (λ p. refl)
-    (when-none order size (not (before.file == r.file)) (set_file r.file) _ (λ p. refl)
-    (when-none order size (not (before.column == r.column)) (set_column r.column) _ (λ p. refl)
-    (when-none order size (not (before.isa == r.isa)) (set_isa r.isa) _ (λ p. refl)
-    (when-none order size (not (before.line == r.line)) (advance_line _) _ (λ p. refl)
-    (when-none order size (not (before.offset == r.offset)) (advance_pc _) (copy ∷ []) (λ p. refl) (λ p. refl))))))))))
-
-pub rows-none : (order : Endian) (size : ℕ) (before : LineRow) (rows : List LineRow) (last p : ℕ) → program_fields order size p (rows_instructions before rows last) ≡ []
-rows-none order size before [] last p = when-none order size (not (before.offset == last)) (advance_pc _) (end_sequence ∷ []) (λ q. refl) (λ q. refl) p
-rows-none order size before (r ∷ rows) last p =
-    at_places-append (instruction_bytes order size) (instruction_fields order size) (row_instructions before r) (rows_instructions r rows last) p
-    ∙ rw (row-none order size before r p) (rows-none order size r rows last _)
 
 sequence-functions : (order : Endian) (size place : ℕ) (q : WrittenSequence) → filter_map function_relocation (sequence_relocations order size place q) ≡ relocations_of (program_fields order size place (sequence_instructions q))
 sequence-functions order size place q =

@@ -19,19 +19,19 @@ use Rattle.dwc_dwarf.specs.Indexed.{text_base}
 use Rattle.dwc_dwarf.specs.ReadUnits.{Unit as ReadUnit, units, units_of_headers, root, line_offset, table_of_root, table_of_unit}
 use Rattle.dwc_base.specs.Spelling.{unread_at}
 use Rattle.dwc_base.specs.NumberBytes.{number_bytes, uleb_bytes}
-use Rattle.dwc_write.specs.SpelledTables.{table_bytes}
-use Rattle.dwc_write.specs.SpelledAddresses.{AddressField, address_bytes, stored, IsHeld, relocations_of, RiseWithin}
-use Rattle.dwc_write.specs.SpelledUnits.{Written, as_addr, written_bytes, value_fields, WrittenAttribute, attribute_bytes, WrittenEntry, Shaped, shaped, entry_bytes, entry_fields, entries_bytes, entries_fields, header_length, read_header, unit_body}
-use Rattle.dwc_write.specs.SpelledLines.{instruction_bytes, instruction_fields, line_fields_bytes, program_bytes, program_fields, program_place, line_body, sequences_instructions}
+use Rattle.dwc_unit.specs.SpelledTables.{table_bytes}
+use Rattle.dwc_section.specs.SpelledAddresses.{AddressField, address_bytes, stored, IsHeld, relocations_of, RiseWithin}
+use Rattle.dwc_unit.specs.SpelledUnits.{Written, as_addr, written_bytes, value_fields, WrittenAttribute, attribute_bytes, WrittenEntry, Shaped, shaped, entry_bytes, entry_fields, entries_bytes, entries_fields, header_length, read_header, unit_body}
+use Rattle.dwc_unit.specs.SpelledLines.{instruction_bytes, instruction_fields, line_fields_bytes, program_bytes, program_fields, program_place, line_body, sequences_instructions}
 use Rattle.dwc_write.specs.SpelledSections.{PlacedTable, WrittenUnit, tables_bytes, placed_unit_bytes, info_bytes, unit_fields, info_fields, read_unit, read_units, FitsUnit, AreTablesFrom, WrittenTable, one_table_bytes, lines_bytes, one_table_fields, lines_fields, placed_tables, read_table, FitsTable}
 use Rattle.dwc_base.proofs.Takes.{Leaves-at, unit_header_at-leaves}
 use Rattle.dwc_base.proofs.UnitWalk.{unit_headers_from-end, unit_headers_from-item}
-use Rattle.dwc_write.proofs.ReadNumbers.{number_bytes-length}
+use Rattle.dwc_section.proofs.ReadNumbers.{number_bytes-length}
 use Rattle.dwc_write.proofs.ReadTables.{table-read}
-use Rattle.dwc_write.proofs.ReadValues.{All-front, All-back}
-use Rattle.dwc_write.proofs.ReadEntries.{header-read, unit-entries}
+use Rattle.dwc_unit.proofs.ReadValues.{All-front, All-back}
+use Rattle.dwc_unit.proofs.ReadEntries.{header-read, unit-entries}
 use Rattle.dwc_write.proofs.ReadAddresses.{rising-held, rise-below, rise-above, rise-places}
-use Rattle.dwc_write.proofs.ReadLines.{line-table-read}
+use Rattle.dwc_unit.proofs.ReadLines.{line-table-read}
 use Rattle.dwc_base.specs.declared.constants.TheConstants.{DW_AT_stmt_list}
 
 -- ---- fields of addresses rise

@@ -14,9 +14,9 @@ use Rattle.dwc_base.specs.Sections.{Sections}
 use Rattle.dwc_base.specs.Abbreviations.{AttributeSpec, Declaration, implicit_at, attribute_spec_at, declaration_behind, declaration_at, abbreviation_table, declaration_of}
 use Rattle.dwc_base.specs.Spelling.{Spells}
 use Rattle.dwc_base.specs.NumberBytes.{uleb_bytes, sleb_bytes}
-use Rattle.dwc_write.specs.Spelled.{SpellsAt}
-use Rattle.dwc_write.specs.SpelledTables.{implicit_bytes, spec_bytes, flag_of, declaration_bytes, table_bytes, FitsSpec, FitsDeclaration, AreNumbered}
-use Rattle.dwc_write.proofs.ReadParts.{here, anywhere, behind, last, nothing, tested, Spells-byte, Spells-zero, Spells-uleb_bytes, Spells-sleb_bytes, Spells-items}
+use Rattle.dwc_section.specs.Spelled.{SpellsAt}
+use Rattle.dwc_unit.specs.SpelledTables.{implicit_bytes, spec_bytes, flag_of, declaration_bytes, table_bytes, FitsSpec, FitsDeclaration, AreNumbered}
+use Rattle.dwc_unit.proofs.ReadParts.{here, anywhere, behind, last, nothing, tested, Spells-byte, Spells-zero, Spells-uleb_bytes, Spells-sleb_bytes, Spells-items}
 use Rattle.dwc_base.proofs.TakesMore.{attribute_spec_at-leaves, declaration_at-leaves}
 use Rattle.dwc_base.specs.declared.constants.TheConstants.{DW_FORM_implicit_const}
 

@@ -13,14 +13,14 @@ use Rattle.dwc_base.specs.Reading.{◌>>=◌}
 use Rattle.dwc_dwarf.specs.LineHeaders.{text_in}
 use Rattle.dwc_base.specs.Spelling.{unread_at}
 use Rattle.dwc_write.specs.declared.text_layout.TextLayout.{TextLayout}
-use Rattle.dwc_write.specs.TextTables.{IsText}
-use Rattle.dwc_write.specs.GivenUnits.{OrderedUnit, place_of}
+use Rattle.dwc_unit.specs.TextTables.{IsText}
+use Rattle.dwc_unit.specs.GivenUnits.{OrderedUnit, place_of}
 use Rattle.dwc_write.specs.Layouts.{AllPlaces, UnitPlaces, offset_of_text}
-use Rattle.dwc_write.specs.UsedTexts.{with_number, with_numbers, text_numbered, texts_bytes, strings_bytes, texts_used, place_of_text, text_places}
+use Rattle.dwc_unit.specs.UsedTexts.{with_number, with_numbers, text_numbered, texts_bytes, strings_bytes, texts_used, place_of_text, text_places}
 use Rattle.dwc_write.specs.TextViews.{IsTextLayout}
-use Rattle.dwc_write.specs.Writers.{most_bytes}
-use Rattle.dwc_write.proofs.ReadParts.{text_at-front}
-use Rattle.dwc_write.proofs.UnitLaws.{place_get}
+use Rattle.dwc_section.specs.Writers.{most_bytes}
+use Rattle.dwc_unit.proofs.ReadParts.{text_at-front}
+use Rattle.dwc_unit.proofs.UnitLaws.{place_get}
 
 -- ---- where texts stand
 

@@ -17,8 +17,8 @@ use Rattle.dwc_output.specs.OutputForm.{HaveTargetForm}
 use Rattle.dwc_dwarf.specs.Trees as trees
 use Rattle.dwc_base.specs.declared.section_name.SectionName.{SectionName}
 use Rattle.dwc_base.specs.Units.{UnitHeader}
-use Rattle.dwc_write.specs.declared.list_places.ListPlaces.{ListPlaces}
-use Rattle.dwc_write.specs.Lists.{ListEntry, behind_attributes, list_bytes, locations_in, no_lists, ranges_in}
+use Rattle.dwc_unit.specs.declared.lists.ListPlaces.{ListPlaces}
+use Rattle.dwc_unit.specs.Lists.{ListEntry, behind_attributes, list_bytes, locations_in, no_lists, ranges_in}
 use Rattle.dwc_write.proofs.ListPlaces.{IsPlaceOf, locations-place, ranges-place}
 use Rattle.dwc_write.proofs.ReadLists.{location-offset, range-offset}
 use Rattle.dwc_write.proofs.ListsGiven.{IsLocationRead, IsRangeRead, AreAllRead, AreListsRead, AreAllListsRead, StandThere, locations-listed, ranges-listed, stand-front, stand-back}
@@ -30,24 +30,24 @@ use Rattle.dwc_base.specs.Reading.{◌>>=◌}
 use Rattle.dwc_dwarf.specs.Texts.{text_elsewhere, text_named}
 use Rattle.dwc_base.specs.declared.faults.What.TheVariants.{Text}
 use Rattle.dwc_base.specs.declared.section_name.SectionName.TheVariants.{Info, Loc, Ranges, Str}
-use Rattle.dwc_write.specs.declared.attributes.Attribute.{Attribute}
-use Rattle.dwc_write.specs.declared.attributes.AttributeValue.{AttributeValue}
-use Rattle.dwc_write.specs.declared.attributes.AttributeValue.TheVariants.{Address, Constant, Flag, Block, Exprloc, StringRef, LineProgramRef, RangeListRef, LocationListRef, UnitRef, DebugInfoRef}
-use Rattle.dwc_write.specs.declared.attributes.DebugInfoRef.TheVariants.{Entry as entry_of}
-use Rattle.dwc_write.specs.SpelledUnits.{as_data1, as_data2, as_data4, as_data8, as_udata, as_sdata, written_value, shaped, header_length}
-use Rattle.dwc_write.specs.SpelledTables.{table_bytes}
+use Rattle.dwc_unit.specs.declared.attributes.Attribute.{Attribute}
+use Rattle.dwc_unit.specs.declared.attributes.AttributeValue.{AttributeValue}
+use Rattle.dwc_unit.specs.declared.attributes.AttributeValue.TheVariants.{Address, Constant, Flag, Block, Exprloc, StringRef, LineProgramRef, RangeListRef, LocationListRef, UnitRef, DebugInfoRef}
+use Rattle.dwc_unit.specs.declared.attributes.DebugInfoRef.TheVariants.{Entry as entry_of}
+use Rattle.dwc_unit.specs.SpelledUnits.{as_data1, as_data2, as_data4, as_data8, as_udata, as_sdata, written_value, shaped, header_length}
+use Rattle.dwc_unit.specs.SpelledTables.{table_bytes}
 use Rattle.dwc_write.specs.SpelledSections.{placed_unit_bytes, lines_bytes, read_unit, read_units}
-use Rattle.dwc_write.specs.GivenLines.{FitsLines}
-use Rattle.dwc_write.specs.GivenUnits.{GivenEntry, OrderedUnit, Places, AreWritable, size_of, shapes_in, lists_of_entries, lists_of_units, AreShortUnits, constant_of, written_of, is_constant_form, constant_bound, FitsValue, FitsAttribute, FitsEntry, FitsOrdered}
-use Rattle.dwc_write.specs.GivenTrees.{place_in_order, place_in_units, given_said, attribute_said, tree_entry, given_tree, trees_from, given_trees}
-use Rattle.dwc_write.specs.TextTables.{IsText}
-use Rattle.dwc_write.specs.UsedTexts.{HaveTexts, text_numbered, text_of_value, text_places, texts_named, texts_of_attributes, texts_of_entries}
+use Rattle.dwc_unit.specs.GivenLines.{FitsLines}
+use Rattle.dwc_unit.specs.GivenUnits.{GivenEntry, OrderedUnit, Places, AreWritable, size_of, shapes_in, lists_of_entries, lists_of_units, AreShortUnits, constant_of, written_of, is_constant_form, constant_bound, FitsValue, FitsAttribute, FitsEntry, FitsOrdered}
+use Rattle.dwc_unit.specs.GivenTrees.{place_in_order, place_in_units, given_said, attribute_said, tree_entry, given_tree, trees_from, given_trees}
+use Rattle.dwc_unit.specs.TextTables.{IsText}
+use Rattle.dwc_unit.specs.UsedTexts.{HaveTexts, text_numbered, text_of_value, text_places, texts_named, texts_of_attributes, texts_of_entries}
 use Rattle.dwc_write.specs.Layouts.{AllPlaces, offset_of_text, unit_length, offsets_by_number, places_of_units, places_in, behind_unit, written_unit, written_lines, written_units}
 use Rattle.dwc_write.specs.SpelledOutput.{units_placed, all_places, spelled_sections}
-use Rattle.dwc_write.specs.Writers.{IsSound}
+use Rattle.dwc_section.specs.Writers.{IsSound}
 use Rattle.dwc_write.specs.ReadBack.{read_contents, given_values, given_contents, IsReadUnit, ReadsBack}
 use Rattle.dwc_write.proofs.ReadTexts.{all-used, text-read}
-use Rattle.dwc_write.proofs.ReadValues.{All-back, All-front}
+use Rattle.dwc_unit.proofs.ReadValues.{All-back, All-front}
 use Rattle.dwc_write.proofs.PlacedEntries.{placed-length, offsets-same, offsets-moved, offsets-read, StandsAt, StandFrom, in-unit, in-section}
 use Rattle.dwc_write.proofs.ReadBackLaws.{places-contents, contents-given, are-spelled, positive, units-read-back}
 

@@ -7,11 +7,11 @@ use Rattle.dwc_dwarf.specs.Trees.{entry, nothing, Tree}
 use Rattle.dwc_base.specs.Outputs.{OutputRelocation, section}
 use Rattle.dwc_base.specs.NumberBytes.{uleb_bytes, uleb_bytes_within}
 use Rattle.dwc_write.specs.SpelledRelocations.{info_relocations}
-use Rattle.dwc_write.specs.declared.attributes.AttributeValue.TheVariants.{UnitRef, DebugInfoRef}
-use Rattle.dwc_write.specs.declared.attributes.DebugInfoRef.TheVariants.{Entry}
-use Rattle.dwc_write.specs.GivenLines.{GivenLines}
-use Rattle.dwc_write.specs.GivenUnits.{OrderedUnit}
-use Rattle.dwc_write.specs.GivenTrees.{given_trees}
+use Rattle.dwc_unit.specs.declared.attributes.AttributeValue.TheVariants.{UnitRef, DebugInfoRef}
+use Rattle.dwc_unit.specs.declared.attributes.DebugInfoRef.TheVariants.{Entry}
+use Rattle.dwc_unit.specs.GivenLines.{GivenLines}
+use Rattle.dwc_unit.specs.GivenUnits.{OrderedUnit}
+use Rattle.dwc_unit.specs.GivenTrees.{given_trees}
 use Rattle.dwc_write.specs.Layouts.{entry_offsets, unit_length, offsets_by_number}
 use Rattle.dwc_write.specs.SpelledOutput.{units_placed, abbrev_bytes, all_info_bytes, all_places}
 

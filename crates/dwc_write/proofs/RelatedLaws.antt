@@ -18,29 +18,30 @@ use Rattle.dwc_dwarf.specs.ReadUnits.{Unit, units, root}
 use Rattle.dwc_base.specs.Outputs.{OutputRelocation, output_sections}
 use Rattle.dwc_dwarf.specs.RawLists.{is_location_list, is_range_list}
 use Rattle.dwc_output.specs.Fields.{field_of_value, fields_of_unit, fields_of_lines, fields_of_section, lists_of_unit, relocations_of_fields, IsRelocated, AreRelocated}
-use Rattle.dwc_write.specs.declared.attributes.Attribute.{Attribute}
-use Rattle.dwc_write.specs.declared.attributes.AttributeValue.{AttributeValue}
-use Rattle.dwc_write.specs.declared.attributes.AttributeValue.TheVariants as given
-use Rattle.dwc_write.specs.declared.attributes.DebugInfoRef.TheVariants.{Entry as entry_of}
-use Rattle.dwc_write.specs.SpelledTables.{table_bytes}
-use Rattle.dwc_write.specs.SpelledAddresses.{IsHeld}
-use Rattle.dwc_write.specs.SpelledUnits.{as_data1, as_data2, as_data4, as_data8, as_udata, as_sdata, written_value, Shaped, shaped, header_length}
+use Rattle.dwc_unit.specs.declared.attributes.Attribute.{Attribute}
+use Rattle.dwc_unit.specs.declared.attributes.AttributeValue.{AttributeValue}
+use Rattle.dwc_unit.specs.declared.attributes.AttributeValue.TheVariants as given
+use Rattle.dwc_unit.specs.declared.attributes.DebugInfoRef.TheVariants.{Entry as entry_of}
+use Rattle.dwc_unit.specs.SpelledTables.{table_bytes}
+use Rattle.dwc_section.specs.SpelledAddresses.{IsHeld}
+use Rattle.dwc_unit.specs.SpelledUnits.{as_data1, as_data2, as_data4, as_data8, as_udata, as_sdata, written_value, Shaped, shaped, header_length}
 use Rattle.dwc_write.specs.SpelledSections.{placed_unit_bytes, lines_bytes, info_fields, lines_fields, read_unit, read_units}
-use Rattle.dwc_write.specs.SpelledRelocations.{value_relocations, info_relocations, lines_relocations, RelocationsRise}
-use Rattle.dwc_write.specs.GivenLines.{FitsLines}
-use Rattle.dwc_write.specs.GivenUnits.{GivenEntry, OrderedUnit, Places, EntryShape, written_of, FitsValue, FitsAttribute, FitsEntry, FitsOrdered, size_of, AreShortUnits, AreWritable, shapes_in, numbered, written_attribute, written_attributes, written_entries, lists_of_entries, lists_of_units}
-use Rattle.dwc_write.specs.declared.list_places.ListPlaces.{ListPlaces}
-use Rattle.dwc_write.specs.Lists.{ListEntry, behind_attributes, list_bytes, list_relocations, listed_bytes, listed_relocations, locations_in, no_lists, ranges_in}
-use Rattle.dwc_write.proofs.ReadRelocations.{at_places-append}
+use Rattle.dwc_write.specs.SpelledRelocations.{value_relocations, info_relocations, lines_relocations}
+use Rattle.dwc_section.specs.RisingRelocations.{RelocationsRise}
+use Rattle.dwc_unit.specs.GivenLines.{FitsLines}
+use Rattle.dwc_unit.specs.GivenUnits.{GivenEntry, OrderedUnit, Places, EntryShape, written_of, FitsValue, FitsAttribute, FitsEntry, FitsOrdered, size_of, AreShortUnits, AreWritable, shapes_in, numbered, written_attribute, written_attributes, written_entries, lists_of_entries, lists_of_units}
+use Rattle.dwc_unit.specs.declared.lists.ListPlaces.{ListPlaces}
+use Rattle.dwc_unit.specs.Lists.{ListEntry, behind_attributes, list_bytes, list_relocations, listed_bytes, listed_relocations, locations_in, no_lists, ranges_in}
+use Rattle.dwc_unit.proofs.RowFields.{at_places-append}
 use Rattle.dwc_write.proofs.ReadLists.{location-offset, range-offset}
 use Rattle.dwc_write.proofs.RelatedListsGiven.{IsRelatedKind, both-related, locations-related, ranges-related}
 use Rattle.dwc_write.proofs.ListsGiven.{StandThere, stand-back, stand-front}
 use Rattle.dwc_write.proofs.ListsStand.{locations-stand, ranges-stand}
 use Rattle.dwc_write.proofs.RelatedLists.{list-rise}
 use Rattle.dwc_write.specs.Layouts.{AllPlaces, offsets_by_number, places_in, behind_unit, written_lines, written_unit, written_units, written_tables}
-use Rattle.dwc_write.specs.UsedTexts.{strings_bytes}
+use Rattle.dwc_unit.specs.UsedTexts.{strings_bytes}
 use Rattle.dwc_write.specs.SpelledOutput.{abbrev_bytes, all_info_bytes, all_lines_bytes, all_lists_bytes, all_lists_relocations, units_placed, all_places, spelled_sections}
-use Rattle.dwc_write.specs.Writers.{IsSound}
+use Rattle.dwc_section.specs.Writers.{IsSound}
 use Rattle.dwc_write.proofs.ReadAddresses.{rising-held}
 use Rattle.dwc_write.proofs.ReadRelocations as relocations
 use Rattle.dwc_write.proofs.ReadRelocations.{info-functions, lines-functions, rise-from}

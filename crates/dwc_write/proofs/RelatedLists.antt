@@ -9,15 +9,15 @@ use Rattle.dwc_base.specs.declared.records.Endian.{Endian}
 use Rattle.dwc_output.specs.Fields.{Field, field_of_address, fields_of_listed, held_bytes as held_space, relocations_of_fields}
 use Rattle.dwc_base.specs.Outputs.{function_relocation}
 use Rattle.dwc_dwarf.specs.RawLists.{RawLocation}
-use Rattle.dwc_write.specs.Spelled.{at_places}
-use Rattle.dwc_write.specs.SpelledAddresses.{address_bytes, stored, relocation_for, relocations_of, RiseWithin}
-use Rattle.dwc_write.specs.SpelledRelocations.{RelocationsRise}
-use Rattle.dwc_write.specs.Lists.{ListEntry, end_of, ended, held_length, list_bytes, list_fields, list_relocations, listed_bytes, listed_fields, listed_relocations}
-use Rattle.dwc_write.specs.Writers.{address_relocations}
+use Rattle.dwc_section.specs.Spelled.{at_places}
+use Rattle.dwc_section.specs.SpelledAddresses.{address_bytes, stored, relocation_for, relocations_of, RiseWithin}
+use Rattle.dwc_section.specs.RisingRelocations.{RelocationsRise}
+use Rattle.dwc_unit.specs.Lists.{ListEntry, end_of, ended, held_length, list_bytes, list_fields, list_relocations, listed_bytes, listed_fields, listed_relocations}
+use Rattle.dwc_section.specs.Writers.{address_relocations}
 use Rattle.dwc_write.proofs.ListPlaces.{listed-length}
 use Rattle.dwc_write.proofs.ReadAddresses as fields
 use Rattle.dwc_write.proofs.ReadListed.{raw_location}
-use Rattle.dwc_write.proofs.ReadNumbers.{number_bytes-length}
+use Rattle.dwc_section.proofs.ReadNumbers.{number_bytes-length}
 use Rattle.dwc_write.proofs.ReadRelocations as relocations
 use Rattle.dwc_write.proofs.ReadRelocations.{address-rise, address-functions, places-functions}
 

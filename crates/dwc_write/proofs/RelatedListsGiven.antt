@@ -17,20 +17,20 @@ use Rattle.dwc_output.specs.Fields.{Field, fields_of_listed, fields_of_lists, fi
 use Rattle.dwc_dwarf.specs.Lists.{list_source}
 use Rattle.dwc_base.specs.Outputs.{OutputRelocation}
 use Rattle.dwc_dwarf.specs.RawLists.{is_location_list, is_range_list}
-use Rattle.dwc_write.specs.declared.attributes.Attribute.{Attribute}
-use Rattle.dwc_write.specs.declared.attributes.AttributeValue.{AttributeValue}
-use Rattle.dwc_write.specs.declared.attributes.AttributeValue.TheVariants.{Address, Constant, Flag, Block, Exprloc, StringRef, LineProgramRef, RangeListRef, LocationListRef, UnitRef, DebugInfoRef}
-use Rattle.dwc_write.specs.declared.attributes.DebugInfoRef.TheVariants.{Entry as entry_of}
-use Rattle.dwc_write.specs.declared.list_places.ListPlaces.{ListPlaces}
-use Rattle.dwc_write.specs.GivenUnits.{GivenEntry, Places, FitsAttribute, FitsEntry, FitsValue, lists_of_entries, written_of}
-use Rattle.dwc_write.specs.Lists.{ListEntry, behind_attributes, behind_lists, behind_value, ended, list_bytes, list_length, list_relocations, listed_bytes, listed_relocations, lists_of_attributes, location_entry, locations_in, range_entry, ranges_in}
+use Rattle.dwc_unit.specs.declared.attributes.Attribute.{Attribute}
+use Rattle.dwc_unit.specs.declared.attributes.AttributeValue.{AttributeValue}
+use Rattle.dwc_unit.specs.declared.attributes.AttributeValue.TheVariants.{Address, Constant, Flag, Block, Exprloc, StringRef, LineProgramRef, RangeListRef, LocationListRef, UnitRef, DebugInfoRef}
+use Rattle.dwc_unit.specs.declared.attributes.DebugInfoRef.TheVariants.{Entry as entry_of}
+use Rattle.dwc_unit.specs.declared.lists.ListPlaces.{ListPlaces}
+use Rattle.dwc_unit.specs.GivenUnits.{GivenEntry, Places, FitsAttribute, FitsEntry, FitsValue, lists_of_entries, written_of}
+use Rattle.dwc_unit.specs.Lists.{ListEntry, behind_attributes, behind_lists, behind_value, ended, list_bytes, list_length, list_relocations, listed_bytes, listed_relocations, lists_of_attributes, location_entry, locations_in, range_entry, ranges_in}
 use Rattle.dwc_write.specs.ReadBack.{Contents, given_contents, given_values, read_contents}
-use Rattle.dwc_write.specs.SpelledUnits.{as_data1, as_data2, as_data4, as_data8, as_udata, as_sdata, written_value}
+use Rattle.dwc_unit.specs.SpelledUnits.{as_data1, as_data2, as_data4, as_data8, as_udata, as_sdata, written_value}
 use Rattle.dwc_write.proofs.ListPlaces.{IsPlaceOf, locations-place, ranges-place}
 use Rattle.dwc_write.proofs.ListsGiven.{StandThere, next-attributes, next-value, stand-back, stand-front}
 use Rattle.dwc_write.proofs.ReadListed.{raw_pair}
 use Rattle.dwc_write.proofs.ReadLists.{location-offset, locations-named, locations-raw, range-offset, ranges-named, ranges-raw}
-use Rattle.dwc_write.proofs.ReadRelocations.{at_places-append}
+use Rattle.dwc_unit.proofs.RowFields.{at_places-append}
 use Rattle.dwc_write.proofs.RelatedLists.{list-related, read_from}
 
 pub both-related : (fs gs : List Field) → relocations_of_fields (fs ++ gs) ≡ relocations_of_fields fs ++ relocations_of_fields gs

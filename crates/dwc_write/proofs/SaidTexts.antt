@@ -10,21 +10,21 @@ use Rattle.std.proofs.lemmas.Slice.Eq.{bytes_eq-Decides}
 use Rattle.dwc_dwarf.specs.Trees.{TreeValue}
 use Rattle.dwc_dwarf.specs.TreeLaws.{distinct_texts, text_said, texts_ended, values_of, with_new_text}
 use Rattle.dwc_output.specs.TreeReading.{entry_or_nothing}
-use Rattle.dwc_write.specs.declared.attributes.Attribute.{Attribute}
-use Rattle.dwc_write.specs.declared.attributes.AttributeValue.{AttributeValue}
-use Rattle.dwc_write.specs.declared.attributes.AttributeValue.TheVariants.{Address, Constant, Flag, Block, Exprloc, StringRef, LineProgramRef, RangeListRef, LocationListRef, UnitRef, DebugInfoRef}
-use Rattle.dwc_write.specs.declared.attributes.DebugInfoRef.TheVariants.{Entry as entry_of}
-use Rattle.dwc_write.specs.GivenUnits.{GivenEntry, OrderedUnit}
-use Rattle.dwc_write.specs.GivenTrees.{given_said, attribute_said, tree_entry, trees_from, given_trees}
-use Rattle.dwc_write.specs.TextTables.{AreTexts}
-use Rattle.dwc_write.specs.UsedTexts.{HaveTexts, strings_bytes, text_numbered, text_of_value, texts_named, texts_of_attributes, texts_of_entries, with_number, with_numbers}
-use Rattle.dwc_write.specs.declared.error.WriteError.{WriteError}
+use Rattle.dwc_unit.specs.declared.attributes.Attribute.{Attribute}
+use Rattle.dwc_unit.specs.declared.attributes.AttributeValue.{AttributeValue}
+use Rattle.dwc_unit.specs.declared.attributes.AttributeValue.TheVariants.{Address, Constant, Flag, Block, Exprloc, StringRef, LineProgramRef, RangeListRef, LocationListRef, UnitRef, DebugInfoRef}
+use Rattle.dwc_unit.specs.declared.attributes.DebugInfoRef.TheVariants.{Entry as entry_of}
+use Rattle.dwc_unit.specs.GivenUnits.{GivenEntry, OrderedUnit}
+use Rattle.dwc_unit.specs.GivenTrees.{given_said, attribute_said, tree_entry, trees_from, given_trees}
+use Rattle.dwc_unit.specs.TextTables.{AreTexts}
+use Rattle.dwc_unit.specs.UsedTexts.{HaveTexts, strings_bytes, text_numbered, text_of_value, texts_named, texts_of_attributes, texts_of_entries, with_number, with_numbers}
+use Rattle.dwc_section.specs.declared.error.WriteError.{WriteError}
 use Rattle.dwc_write.specs.TextViews.{IsTextRefusal}
-use Rattle.dwc_write.specs.WidestGiven.{IsWideRefusal, widest_said}
+use Rattle.dwc_unit.specs.WidestGiven.{IsWideRefusal, widest_said}
 use Rattle.dwc_base.specs.declared.section_name.SectionName.TheVariants.{Str}
-use Rattle.dwc_write.specs.Writers.{most_bytes}
-use Rattle.dwc_write.proofs.RefusalLaws.{past-among, size-refusal}
-use Rattle.dwc_write.proofs.TextSets.{bytes-same}
+use Rattle.dwc_section.specs.Writers.{most_bytes}
+use Rattle.dwc_section.proofs.RefusalLaws.{past-among, size-refusal}
+use Rattle.dwc_unit.proofs.TextSets.{bytes-same}
 
 nothing-said : (o : Option (ℕ × ℕ)) (rest : List TreeValue) → filter_map text_said (entry_or_nothing o ∷ rest) ≡ filter_map text_said rest
 nothing-said None rest = refl

@@ -5,12 +5,12 @@ use Rattle.dwc_base.specs.declared.records.Endian.TheVariants.{Little}
 use Rattle.dwc_base.specs.declared.records.Address.{Address}
 use Rattle.dwc_base.specs.declared.records.LineRow.{LineRow}
 use Rattle.dwc_base.specs.NumberBytes.{uleb_bytes}
-use Rattle.dwc_write.specs.SpelledAddresses.{address_bytes, stored}
-use Rattle.dwc_write.specs.SpelledLines.{WrittenSequence, first_row, program_bytes, row_instructions, rows_instructions}
+use Rattle.dwc_section.specs.SpelledAddresses.{address_bytes, stored}
+use Rattle.dwc_unit.specs.SpelledLines.{WrittenSequence, first_row, program_bytes, row_instructions, rows_instructions}
 use Rattle.dwc_write.specs.SpelledRelocations.{sequence_bytes, sequence_relocations}
-use Rattle.dwc_write.specs.Writers.{address_relocations}
-use Rattle.dwc_write.proofs.ReadNumbers.{uleb_bytes-small, number_bytes-length}
-use Rattle.dwc_write.proofs.ReadWritten.{row-bytes, rows-bytes-end, rows-bytes-more}
+use Rattle.dwc_section.specs.Writers.{address_relocations}
+use Rattle.dwc_section.proofs.ReadNumbers.{uleb_bytes-small, number_bytes-length}
+use Rattle.dwc_unit.proofs.ReadWritten.{row-bytes, rows-bytes-end, rows-bytes-more}
 
 -- rows have no number of a fixed size
 pub rows-plain : (order : Endian) (size : ℕ) (before : LineRow) (rows : List LineRow) (last : ℕ) → program_bytes order size (rows_instructions before rows last) ≡ program_bytes Little 8 (rows_instructions before rows last)

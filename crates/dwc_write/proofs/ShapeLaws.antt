@@ -6,12 +6,12 @@ use Rattle.std.proofs.lemmas.Bool.{eqb-true, lt-ltb, le-ltb}
 use Rattle.std.proofs.lemmas.List.Elements.{All-head, All-tail}
 use Rattle.dwc_base.specs.declared.constants.TheConstants.{DW_FORM_implicit_const}
 use Rattle.dwc_base.specs.NumberBytes.{uleb_bytes}
-use Rattle.dwc_write.specs.SpelledTables.{spec_bytes, declaration_bytes}
-use Rattle.dwc_write.specs.declared.abbreviations.AttributeForm.{AttributeForm}
+use Rattle.dwc_unit.specs.SpelledTables.{spec_bytes, declaration_bytes}
+use Rattle.dwc_unit.specs.declared.attributes.AttributeForm.{AttributeForm}
 use Rattle.dwc_write.specs.declared.abbreviations.Shape.{Shape}
 use Rattle.dwc_write.specs.ShapeViews.{shape_view}
-use Rattle.dwc_write.specs.GivenUnits.{EntryShape, IsPlainShape, same_flag, same_forms, same_shape, place_in, with_use, form_bytes, shape_bytes, spec_of_form, numbered}
-use Rattle.dwc_write.proofs.WritesLaws.{all-seen}
+use Rattle.dwc_unit.specs.GivenUnits.{EntryShape, IsPlainShape, same_flag, same_forms, same_shape, place_in, with_use, form_bytes, shape_bytes, spec_of_form, numbered}
+use Rattle.dwc_section.proofs.WritesLaws.{all-seen}
 
 pub with_use-known : (s : EntryShape) (known : List EntryShape) → place_in s known < length known → with_use s known ≡ known
 with_use-known s known within = let is : ltb (place_in s known) (length known) ≡ true = lt-ltb _ _ within in rw (is) refl

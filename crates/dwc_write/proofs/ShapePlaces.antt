@@ -3,10 +3,10 @@ use Rattle.std.proofs.Common.{◌≡◌, ◌≢◌, ◌∙◌, ◌<◌, ◌≤�
 use Rattle.std.specs.Prelude.{if◌then◌else◌, ◌==◌, ◌&&◌}
 use Rattle.std.proofs.lemmas.Bool.{ltb-false, ltb-true}
 use Rattle.std.proofs.lemmas.List.{get_or-map, length-map}
-use Rattle.dwc_write.specs.declared.abbreviations.AttributeForm.{AttributeForm}
+use Rattle.dwc_unit.specs.declared.attributes.AttributeForm.{AttributeForm}
 use Rattle.dwc_write.specs.declared.abbreviations.Shape.{Shape}
-use Rattle.dwc_write.specs.declared.attributes.Attribute.{Attribute}
-use Rattle.dwc_write.specs.GivenUnits.{AreOwn, EntryShape, form_of, forms_of, place_in, same_forms, same_shape, with_use}
+use Rattle.dwc_unit.specs.declared.attributes.Attribute.{Attribute}
+use Rattle.dwc_unit.specs.GivenUnits.{AreOwn, EntryShape, form_of, forms_of, place_in, same_forms, same_shape, with_use}
 use Rattle.dwc_write.specs.ShapeViews.{shape_view}
 use Rattle.dwc_write.proofs.EntriesLaws.{place-more, place-new}
 use Rattle.dwc_write.proofs.ShapeLaws.{same_shape-equal}

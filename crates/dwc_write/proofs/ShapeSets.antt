@@ -7,12 +7,12 @@ use Rattle.std.proofs.lemmas.Bool.{ltb-false, eqb-false, eqb-true}
 use Rattle.std.proofs.lemmas.List.{length-map, map-append}
 use Rattle.std.proofs.lemmas.List.Recursion.{is_position_or_len}
 use Rattle.indexmap.specs.IndexSet.{insert_key}
-use Rattle.dwc_write.specs.contracts.abbreviations.AttributeFormPartialEq.TheImpl.{eq-value as form_eq}
+use Rattle.dwc_unit.specs.contracts.attributes.AttributeFormPartialEq.TheImpl.{eq-value as form_eq}
 use Rattle.dwc_write.specs.contracts.abbreviations.ShapePartialEq.TheImpl.{eq-value}
-use Rattle.dwc_write.specs.declared.abbreviations.AttributeForm.{AttributeForm}
+use Rattle.dwc_unit.specs.declared.attributes.AttributeForm.{AttributeForm}
 use Rattle.dwc_write.specs.declared.abbreviations.Shape.{Shape}
 use Rattle.dwc_write.specs.ShapeViews.{shape_view}
-use Rattle.dwc_write.specs.GivenUnits.{same_forms, same_flag, same_shape, place_in, with_use}
+use Rattle.dwc_unit.specs.GivenUnits.{same_forms, same_flag, same_shape, place_in, with_use}
 use Rattle.dwc_write.proofs.ShapeLaws.{with_use-known, with_use-new}
 use Rattle.dwc_write.proofs.EntriesLaws.{place-most}
 

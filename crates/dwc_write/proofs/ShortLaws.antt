@@ -11,14 +11,14 @@ use Rattle.dwc_dwarf.specs.Trees.{TreeValue}
 use Rattle.dwc_dwarf.specs.TreeLaws.{has_short_expressions, have_short_expressions, values_of}
 use Rattle.dwc_output.specs.TreeReading.{entry_or_nothing}
 use Rattle.dwc_base.specs.declared.records.Address.{Address as RangeAddress}
-use Rattle.dwc_write.specs.declared.attributes.Attribute.{Attribute}
-use Rattle.dwc_write.specs.declared.attributes.AttributeValue.{AttributeValue}
-use Rattle.dwc_write.specs.declared.attributes.AttributeValue.TheVariants.{Address, Constant, Flag, Block, Exprloc, StringRef, LineProgramRef, RangeListRef, LocationListRef, UnitRef, DebugInfoRef}
-use Rattle.dwc_write.specs.declared.attributes.DebugInfoRef.TheVariants.{Entry as entry_of}
-use Rattle.dwc_write.specs.declared.expressions.Expression.{Expression}
-use Rattle.dwc_write.specs.GivenTrees.{given_said, attribute_said, tree_entry, given_tree, trees_from, given_trees}
-use Rattle.dwc_write.specs.GivenUnits.{Addition, GivenEntry, GivenUnit, OrderedUnit, AreBehindParents, AreShortUnits, FitsGivenUnit, HaveShortLists, IsRooted, below, entry_at, in_file_order, lists_of_entries, ordered}
-use Rattle.dwc_write.specs.Lists.{ended, list_end, lists_of_attributes, location_entry, location_of, locations_in}
+use Rattle.dwc_unit.specs.declared.attributes.Attribute.{Attribute}
+use Rattle.dwc_unit.specs.declared.attributes.AttributeValue.{AttributeValue}
+use Rattle.dwc_unit.specs.declared.attributes.AttributeValue.TheVariants.{Address, Constant, Flag, Block, Exprloc, StringRef, LineProgramRef, RangeListRef, LocationListRef, UnitRef, DebugInfoRef}
+use Rattle.dwc_unit.specs.declared.attributes.DebugInfoRef.TheVariants.{Entry as entry_of}
+use Rattle.dwc_unit.specs.declared.expressions.Expression.{Expression}
+use Rattle.dwc_unit.specs.GivenTrees.{given_said, attribute_said, tree_entry, given_tree, trees_from, given_trees}
+use Rattle.dwc_unit.specs.GivenUnits.{Addition, GivenEntry, GivenUnit, OrderedUnit, AreBehindParents, AreShortUnits, FitsGivenUnit, HaveShortLists, IsRooted, below, entry_at, in_file_order, lists_of_entries, ordered}
+use Rattle.dwc_unit.specs.Lists.{ended, list_end, lists_of_attributes, location_entry, location_of, locations_in}
 use Rattle.dwc_write.specs.ShortLists.{are_short_values, is_short_location, is_short_unit, is_short_value}
 use Rattle.dwc_write.proofs.ListsFit.{HasShort}
 

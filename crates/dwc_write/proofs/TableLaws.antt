@@ -4,17 +4,17 @@ use Rattle.std.specs.Prelude.{◌-◌}
 use Rattle.std.specs.List.{All, flat_map}
 use Rattle.dwc_base.specs.declared.records.Endian.{Endian}
 use Rattle.dwc_base.specs.NumberBytes.{number_bytes}
-use Rattle.dwc_write.specs.Spelled.{sized_bytes}
+use Rattle.dwc_section.specs.Spelled.{sized_bytes}
 use Rattle.dwc_dwarf.specs.LineHeaders.{LineFile}
-use Rattle.dwc_write.specs.GivenLines.{GivenLines, BegunSequence}
+use Rattle.dwc_unit.specs.GivenLines.{GivenLines, BegunSequence}
 use Rattle.dwc_write.specs.Layouts.{written_lines}
-use Rattle.dwc_write.specs.SpelledLines.{WrittenSequence, line_fields_bytes, line_body, program_place, sequences_instructions}
+use Rattle.dwc_unit.specs.SpelledLines.{WrittenSequence, line_fields_bytes, line_body, program_place, sequences_instructions}
 use Rattle.dwc_write.specs.SpelledSections.{WrittenTable, one_table_bytes, lines_bytes}
 use Rattle.dwc_write.specs.SpelledRelocations.{sequence_bytes, sequences_relocations, one_table_relocations, lines_relocations}
-use Rattle.dwc_write.specs.Writers.{Writing, appended, overwritten, IsClear}
-use Rattle.dwc_write.proofs.ReadNumbers.{number_bytes-length}
+use Rattle.dwc_section.specs.Writers.{Writing, appended, overwritten, IsClear}
+use Rattle.dwc_section.proofs.ReadNumbers.{number_bytes-length}
 use Rattle.dwc_write.proofs.ReadRelocations.{sequences-bytes, sequences-rise, clear-between}
-use Rattle.dwc_write.proofs.WritesLaws.{appended-twice, length-behind, order-behind, patched}
+use Rattle.dwc_section.proofs.WritesLaws.{appended-twice, length-behind, order-behind, patched}
 
 abbrev room : List ℕ
 room = 0 ∷ 0 ∷ 0 ∷ 0 ∷ []

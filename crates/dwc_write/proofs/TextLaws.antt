@@ -8,15 +8,15 @@ use Rattle.std.proofs.lemmas.List.{drop_all, length-replicate, length-set, map-a
 use Rattle.std.proofs.lemmas.List.Elements.{All-push, All-nil}
 use Rattle.dwc_dwarf.specs.TreeLaws.{texts_ended}
 use Rattle.dwc_base.specs.Outputs.{OutputRelocation}
-use Rattle.dwc_write.specs.declared.error.WriteError.{WriteError}
-use Rattle.dwc_write.specs.declared.error.WriteError.TheVariants.{TooLarge, InvalidFrameCodeOffset, InvalidFrameDataOffset, OutOfMemory}
+use Rattle.dwc_section.specs.declared.error.WriteError.{WriteError}
+use Rattle.dwc_section.specs.declared.error.WriteError.TheVariants.{TooLarge, InvalidFrameCodeOffset, InvalidFrameDataOffset, OutOfMemory}
 use Rattle.dwc_write.specs.declared.text_layout.TextLayout.{TextLayout}
-use Rattle.dwc_write.specs.Spelled.{at_places}
+use Rattle.dwc_section.specs.Spelled.{at_places}
 use Rattle.dwc_base.specs.declared.section_name.SectionName.TheVariants.{Str}
-use Rattle.dwc_write.specs.Writers.{most_bytes, section_of}
-use Rattle.dwc_write.proofs.RefusalLaws.{past-limit, past-more}
-use Rattle.dwc_write.specs.GivenUnits.{place_of}
-use Rattle.dwc_write.specs.UsedTexts.{with_number, with_numbers, text_numbered, texts_bytes, place_of_text}
+use Rattle.dwc_section.specs.Writers.{most_bytes, section_of}
+use Rattle.dwc_section.proofs.RefusalLaws.{past-limit, past-more}
+use Rattle.dwc_unit.specs.GivenUnits.{place_of}
+use Rattle.dwc_unit.specs.UsedTexts.{with_number, with_numbers, text_numbered, texts_bytes, place_of_text}
 use Rattle.dwc_write.specs.TextViews.{BehindText, IsTextLayout, IsTextRefusal, UsesTexts}
 
 -- ---- one text

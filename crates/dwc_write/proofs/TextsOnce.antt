@@ -22,26 +22,26 @@ use Rattle.dwc_dwarf.specs.TreeLaws.{HasTextsOnce, TextPlace, all_share, place_i
 use Rattle.dwc_base.specs.Reading.{◌>>=◌}
 use Rattle.dwc_dwarf.specs.Values.{Value, is_expression_name, is_location_name, is_range_name}
 use Rattle.dwc_dwarf.specs.Values as Values
-use Rattle.dwc_write.specs.declared.list_places.ListPlaces.{ListPlaces}
-use Rattle.dwc_write.specs.declared.attributes.Attribute.{Attribute}
-use Rattle.dwc_write.specs.declared.attributes.AttributeValue.{AttributeValue}
-use Rattle.dwc_write.specs.declared.attributes.AttributeValue.TheVariants.{Address, Constant, Flag, Block, Exprloc, StringRef, LineProgramRef, RangeListRef, LocationListRef, UnitRef, DebugInfoRef}
-use Rattle.dwc_write.specs.declared.attributes.DebugInfoRef.TheVariants.{Entry as entry_of}
-use Rattle.dwc_write.specs.SpelledUnits.{Written, as_addr, as_data1, as_data2, as_data4, as_data8, as_udata, as_sdata, as_flag, as_block, as_exprloc, as_strp, as_ref4, as_ref_addr, as_sec_offset, header_length, shaped, written_value}
-use Rattle.dwc_write.specs.SpelledTables.{table_bytes}
+use Rattle.dwc_unit.specs.declared.lists.ListPlaces.{ListPlaces}
+use Rattle.dwc_unit.specs.declared.attributes.Attribute.{Attribute}
+use Rattle.dwc_unit.specs.declared.attributes.AttributeValue.{AttributeValue}
+use Rattle.dwc_unit.specs.declared.attributes.AttributeValue.TheVariants.{Address, Constant, Flag, Block, Exprloc, StringRef, LineProgramRef, RangeListRef, LocationListRef, UnitRef, DebugInfoRef}
+use Rattle.dwc_unit.specs.declared.attributes.DebugInfoRef.TheVariants.{Entry as entry_of}
+use Rattle.dwc_unit.specs.SpelledUnits.{Written, as_addr, as_data1, as_data2, as_data4, as_data8, as_udata, as_sdata, as_flag, as_block, as_exprloc, as_strp, as_ref4, as_ref_addr, as_sec_offset, header_length, shaped, written_value}
+use Rattle.dwc_unit.specs.SpelledTables.{table_bytes}
 use Rattle.dwc_write.specs.SpelledSections.{lines_bytes, placed_unit_bytes, read_units}
 use Rattle.dwc_write.specs.SpelledOutput.{all_places, spelled_sections, units_placed}
-use Rattle.dwc_write.specs.GivenLines.{FitsLines}
-use Rattle.dwc_write.specs.Lists.{behind_attributes, no_lists}
-use Rattle.dwc_write.specs.GivenUnits.{AreWritable, FitsOrdered, GivenEntry, OrderedUnit, Places, constant_of, shapes_in, size_of, written_of}
+use Rattle.dwc_unit.specs.GivenLines.{FitsLines}
+use Rattle.dwc_unit.specs.Lists.{behind_attributes, no_lists}
+use Rattle.dwc_unit.specs.GivenUnits.{AreWritable, FitsOrdered, GivenEntry, OrderedUnit, Places, constant_of, shapes_in, size_of, written_of}
 use Rattle.dwc_write.specs.Layouts.{AllPlaces, offset_of_text, behind_unit, offsets_by_number, places_in, written_lines, written_unit, written_units}
 use Rattle.dwc_write.specs.ReadBack.{Contents, given_contents, given_values, read_contents}
-use Rattle.dwc_write.specs.TextTables.{AreTexts}
-use Rattle.dwc_write.specs.UsedTexts.{HaveTexts, text_numbered, text_of_value, text_places, texts_named, texts_of_attributes, texts_of_entries}
-use Rattle.dwc_write.specs.Writers.{IsSound}
+use Rattle.dwc_unit.specs.TextTables.{AreTexts}
+use Rattle.dwc_unit.specs.UsedTexts.{HaveTexts, text_numbered, text_of_value, text_places, texts_named, texts_of_attributes, texts_of_entries}
+use Rattle.dwc_section.specs.Writers.{IsSound}
 use Rattle.dwc_write.proofs.ReadBackLaws.{are-spelled, contents-given, places-contents, units-read-back}
 use Rattle.dwc_write.proofs.ReadTexts.{all-used, text-read}
-use Rattle.dwc_write.proofs.ReadValues.{All-back, All-front}
+use Rattle.dwc_unit.proofs.ReadValues.{All-back, All-front}
 use Rattle.dwc_write.proofs.SaidTexts.{number-same}
 
 -- ---- values that name no text elsewhere

@@ -6,13 +6,14 @@ use Rattle.dwc_base.specs.declared.records.Endian.{Endian}
 use Rattle.dwc_base.specs.declared.section_name.SectionName.TheVariants.{Abbrev}
 use Rattle.dwc_base.specs.Outputs.{OutputRelocation}
 use Rattle.dwc_base.specs.NumberBytes.{number_bytes}
-use Rattle.dwc_write.specs.SpelledUnits.{shaped, entries_bytes, header_length, unit_body}
+use Rattle.dwc_unit.specs.SpelledUnits.{shaped, entries_bytes, header_length, unit_body}
 use Rattle.dwc_write.specs.SpelledSections.{WrittenUnit, placed_unit_bytes}
-use Rattle.dwc_write.specs.SpelledRelocations.{RelocationsRise, entries_relocations, unit_relocations}
-use Rattle.dwc_write.specs.Writers.{Writing, appended, overwritten, offset_relocation, IsClear}
-use Rattle.dwc_write.proofs.ReadNumbers.{number_bytes-length}
+use Rattle.dwc_write.specs.SpelledRelocations.{entries_relocations, unit_relocations}
+use Rattle.dwc_section.specs.RisingRelocations.{RelocationsRise}
+use Rattle.dwc_section.specs.Writers.{Writing, appended, overwritten, offset_relocation, IsClear}
+use Rattle.dwc_section.proofs.ReadNumbers.{number_bytes-length}
 use Rattle.dwc_write.proofs.ReadRelocations.{entries-rise, clear-between, rise-below}
-use Rattle.dwc_write.proofs.WritesLaws.{appended-twice, length-behind, order-behind, patched}
+use Rattle.dwc_section.proofs.WritesLaws.{appended-twice, length-behind, order-behind, patched}
 
 abbrev room : List ℕ
 room = 0 ∷ 0 ∷ 0 ∷ 0 ∷ []

@@ -7,19 +7,19 @@ use Rattle.std.proofs.lemmas.List.Sums.{sum_by-take-le}
 use Rattle.dwc_base.specs.declared.records.Endian.{Endian}
 use Rattle.dwc_base.specs.declared.records.Endian.TheVariants.{Little}
 use Rattle.dwc_base.specs.declared.section_name.SectionName.TheVariants.{Abbrev, Info, Line, Loc, Ranges}
-use Rattle.dwc_write.specs.declared.error.WriteError.{WriteError}
-use Rattle.dwc_write.specs.declared.error.WriteError.TheVariants.{TooLarge, InvalidFrameCodeOffset, InvalidFrameDataOffset, OutOfMemory}
-use Rattle.dwc_write.specs.SpelledTables.{table_bytes}
+use Rattle.dwc_section.specs.declared.error.WriteError.{WriteError}
+use Rattle.dwc_section.specs.declared.error.WriteError.TheVariants.{TooLarge, InvalidFrameCodeOffset, InvalidFrameDataOffset, OutOfMemory}
+use Rattle.dwc_unit.specs.SpelledTables.{table_bytes}
 use Rattle.dwc_write.specs.SpelledSections.{placed_unit_bytes, lines_bytes}
-use Rattle.dwc_write.specs.GivenLines.{FitsLines}
-use Rattle.dwc_write.specs.GivenUnits.{OrderedUnit, FitsOrdered, IsWritable, AreWritable, size_of}
-use Rattle.dwc_write.specs.Lists.{locations_in, no_lists, ranges_in}
+use Rattle.dwc_unit.specs.GivenLines.{FitsLines}
+use Rattle.dwc_unit.specs.GivenUnits.{OrderedUnit, FitsOrdered, IsWritable, AreWritable, size_of}
+use Rattle.dwc_unit.specs.Lists.{locations_in, no_lists, ranges_in}
 use Rattle.dwc_write.specs.Layouts.{AllPlaces, unit_length, written_lines}
 use Rattle.dwc_write.specs.SpelledOutput.{WrittenSections, lists_bytes, unit_in, with_unit, with_units, all_units, RefusesUnit, IsRefusal, IsRefusalAmong, all_info_bytes, all_places, bytes_of, section_bytes}
 use Rattle.dwc_write.specs.LayoutViews.{Advances, IsTooLong}
-use Rattle.dwc_write.specs.WidestGiven.{widest_unit, widest_said, IsWideRefusal}
-use Rattle.dwc_write.specs.Writers.{most_bytes}
-use Rattle.dwc_write.proofs.RefusalLaws.{past-among, refusal-weaker, size-refusal}
+use Rattle.dwc_unit.specs.WidestGiven.{widest_unit, widest_said, IsWideRefusal}
+use Rattle.dwc_section.specs.Writers.{most_bytes}
+use Rattle.dwc_section.proofs.RefusalLaws.{past-among, refusal-weaker, size-refusal}
 use Rattle.dwc_write.proofs.OutputLaws.{all-appended, all_of, section-refused}
 use Rattle.dwc_write.proofs.WidestLaws.{info-within, within-widest}
 use Rattle.dwc_write.proofs.PlacedEntries.{info-length}

@@ -1,6 +1,6 @@
 -- The sections of given units are no longer than their widest sizes: `within-widest`.
 use Rattle.std.proofs.Common.{◌≡◌, ℕ, suc, ◌+◌, ◌-◌, ◌*◌, ◌^◌, ◌<◌, ◌≤◌, ◌⊎◌, inl, inr, refl, sym, ap, subst, ◌∙◌, arith, lit<, List, [], ◌∷◌, ◌++◌, length, length-append, map, replicate, Option, Some, None, Bool, true, false, ltb, refl}
-use Rattle.std.specs.Prelude.{ℤ, pos, negsuc, nat_abs, ◌-ℤ◌, ◌==◌, ◌||◌, not, nat_lt, if◌then◌else◌, sum_by, FitsSigned}
+use Rattle.std.specs.Prelude.{ℤ, pos, ◌-ℤ◌, ◌==◌, ◌||◌, not, nat_lt, if◌then◌else◌, sum_by, FitsSigned}
 use Rattle.std.specs.List.{All, flat_map}
 use Rattle.std.specs.Int.{w64, cast_signed}
 use Rattle.std.proofs.Math.Facts.{sfits_to_z}
@@ -20,42 +20,35 @@ use Rattle.dwc_dwarf.specs.LineHeaders.{LineFile}
 use Rattle.dwc_output.specs.Widest.{variable_bytes, widest_declaration, widest_header, widest_image, widest_row}
 use Rattle.dwc_output.specs.WidestTrees.{constant_bytes}
 use Rattle.dwc_base.specs.NumberBytes.{uleb_bytes, sleb_bytes, number_bytes}
-use Rattle.dwc_write.specs.Spelled.{block_bytes, text_bytes}
-use Rattle.dwc_write.specs.SpelledAddresses.{address_bytes, stored}
-use Rattle.dwc_write.specs.SpelledTables.{FitsSpec, implicit_bytes, spec_bytes, declaration_bytes, flag_of, table_bytes}
-use Rattle.dwc_write.specs.SpelledUnits.{as_data1, as_data2, as_data4, as_data8, as_sdata, as_udata, written_bytes, attribute_bytes, next_depth, shaped, entry_bytes, entries_bytes, unit_body}
-use Rattle.dwc_write.specs.SpelledLines.{FitsFile, FitsRow, WrittenSequence, first_row, differs, bytes_when, extended_bytes, file_bytes, line_fields_bytes, line_body, program_bytes, row_instructions, rows_instructions, sequences_instructions}
+use Rattle.dwc_section.specs.Spelled.{block_bytes, text_bytes}
+use Rattle.dwc_section.specs.SpelledAddresses.{address_bytes, stored}
+use Rattle.dwc_unit.specs.SpelledTables.{FitsSpec, implicit_bytes, spec_bytes, declaration_bytes, flag_of, table_bytes}
+use Rattle.dwc_unit.specs.SpelledUnits.{as_data1, as_data2, as_data4, as_data8, as_sdata, as_udata, written_bytes, attribute_bytes, next_depth, shaped, entry_bytes, entries_bytes, unit_body}
+use Rattle.dwc_unit.specs.SpelledLines.{FitsFile, FitsRow, WrittenSequence, first_row, differs, bytes_when, extended_bytes, file_bytes, line_fields_bytes, line_body, program_bytes, row_instructions, rows_instructions, sequences_instructions}
 use Rattle.dwc_write.specs.SpelledSections.{WrittenTable, placed_unit_bytes, tables_bytes, info_bytes, one_table_bytes, lines_bytes}
 use Rattle.dwc_write.specs.SpelledRelocations.{sequence_bytes}
-use Rattle.dwc_write.specs.declared.attributes.Attribute.{Attribute}
-use Rattle.dwc_write.specs.declared.attributes.AttributeValue.{AttributeValue}
-use Rattle.dwc_write.specs.declared.attributes.AttributeValue.TheVariants.{Address, Constant, Flag, Block, Exprloc, StringRef, LineProgramRef, RangeListRef, LocationListRef, UnitRef, DebugInfoRef}
-use Rattle.dwc_write.specs.declared.attributes.DebugInfoRef.TheVariants.{Entry as entry_of}
-use Rattle.dwc_write.specs.declared.abbreviations.AttributeForm.{AttributeForm}
-use Rattle.dwc_write.specs.GivenLines.{FitsLines, FitsSequences, FitsGivenSequence}
-use Rattle.dwc_write.specs.GivenUnits.{GivenEntry, OrderedUnit, Places, EntryShape, AreBelow, IsTree, IsOfSize, IsWritable, AreWritable, FitsAttribute, FitsMemory, FitsValue, FitsEntry, FitsOrdered, size_of, constant_of, is_constant_form, constant_bound, written_of, form_of, first_depth, shape_of, shapes_of, place_in, with_use, first_uses, code_in, spec_of_form, numbered, shapes_in, written_attribute, written_attributes, written_entries}
+use Rattle.dwc_unit.specs.declared.attributes.Attribute.{Attribute}
+use Rattle.dwc_unit.specs.declared.attributes.AttributeValue.{AttributeValue}
+use Rattle.dwc_unit.specs.declared.attributes.AttributeValue.TheVariants.{Address, Constant, Flag, Block, Exprloc, StringRef, LineProgramRef, RangeListRef, LocationListRef, UnitRef, DebugInfoRef}
+use Rattle.dwc_unit.specs.declared.attributes.DebugInfoRef.TheVariants.{Entry as entry_of}
+use Rattle.dwc_unit.specs.declared.attributes.AttributeForm.{AttributeForm}
+use Rattle.dwc_unit.specs.GivenLines.{FitsLines, FitsSequences, FitsGivenSequence}
+use Rattle.dwc_unit.specs.GivenUnits.{GivenEntry, OrderedUnit, Places, EntryShape, AreBelow, IsTree, IsOfSize, IsWritable, AreWritable, FitsAttribute, FitsMemory, FitsValue, FitsEntry, FitsOrdered, size_of, constant_of, is_constant_form, constant_bound, written_of, form_of, first_depth, shape_of, shapes_of, place_in, with_use, first_uses, code_in, spec_of_form, numbered, shapes_in, written_attribute, written_attributes, written_entries}
 use Rattle.dwc_write.specs.Layouts.{AllPlaces, offsets_by_number, places_in, behind_unit, written_unit, written_lines, written_units, written_tables}
 use Rattle.dwc_write.specs.SpelledOutput.{abbrev_bytes, all_info_bytes, all_lines_bytes, all_lists_bytes, bytes_of}
-use Rattle.dwc_write.specs.declared.list_places.ListPlaces.{ListPlaces}
-use Rattle.dwc_write.specs.Lists.{behind_attributes, locations_in, no_lists, ranges_in}
+use Rattle.dwc_unit.specs.declared.lists.ListPlaces.{ListPlaces}
+use Rattle.dwc_unit.specs.Lists.{behind_attributes, locations_in, no_lists, ranges_in}
 use Rattle.dwc_write.proofs.WidestLists.{lists-within}
-use Rattle.dwc_write.specs.WidestGiven.{widest_value, widest_entry, lists_of, widest_table_for, widest_unit, widest_given}
-use Rattle.dwc_write.proofs.ReadNumbers.{number_bytes-length, uleb_bytes-length, sleb_bytes-small}
-use Rattle.dwc_write.proofs.ReadWritten.{row-bytes, rows-bytes-end, rows-bytes-more}
+use Rattle.dwc_unit.specs.WidestGiven.{widest_value, widest_entry, lists_of, widest_table_for, widest_unit, widest_given}
+use Rattle.dwc_section.proofs.ReadNumbers.{number_bytes-length, uleb_bytes-length, sleb_bytes-small}
+use Rattle.dwc_unit.proofs.ReadWritten.{row-bytes, rows-bytes-end, rows-bytes-more}
 use Rattle.dwc_write.proofs.ReadRelocations.{sequences-bytes}
 use Rattle.dwc_write.proofs.SequenceLaws.{sequence-bytes}
-use Rattle.dwc_write.proofs.SizeLaws.{below_length, sleb-most}
 use Rattle.dwc_write.proofs.EntriesLaws.{code-there, next-first}
 use Rattle.dwc_write.proofs.ReadBackLaws.{FitsShape, vec-short, uses-fit, uses-length, lines_for, lines-are, lengths-both}
-
-pub uleb-10 : (n : ℕ) → n < 2 ^ 64 → length (uleb_bytes n) ≤ 10
-uleb-10 n small = uleb_bytes-length 9 n (omega arith)
+use Rattle.dwc_section.proofs.LebSizes.{uleb-10, sleb-10}
 
 -- ---- signed numbers
-
-pub sleb-10 : (z : ℤ) → nat_abs z ≤ 2 ^ 64 → length (sleb_bytes z) ≤ 10
-sleb-10 (pos n) small = sleb-most n small
-sleb-10 (negsuc n) small = omega (arith, below_length n, sleb-most n (omega (arith, small)))
 
 pub sleb-fits : (z : ℤ) → FitsSigned w64 z → length (sleb_bytes z) ≤ 10
 sleb-fits z fits = sleb-10 z (grind (arith, ints))

@@ -3,11 +3,11 @@ use Rattle.std.proofs.Common.{ℕ, ◌≤◌, arith, List, [], ◌∷◌, length
 use Rattle.std.specs.Prelude.{sum_by}
 use Rattle.std.proofs.lemmas.List.Sums.{sum_by-cons}
 use Rattle.dwc_base.specs.declared.records.Endian.{Endian}
-use Rattle.dwc_write.specs.declared.attributes.Attribute.{Attribute}
-use Rattle.dwc_write.specs.declared.attributes.AttributeValue.{AttributeValue}
-use Rattle.dwc_write.specs.GivenUnits.{GivenEntry, OrderedUnit, lists_of_entries, lists_of_units}
-use Rattle.dwc_write.specs.Lists.{ListEntry, list_bytes, list_length, listed_length, lists_of_attributes}
-use Rattle.dwc_write.specs.WidestGiven.{widest_listed, widest_lists}
+use Rattle.dwc_unit.specs.declared.attributes.Attribute.{Attribute}
+use Rattle.dwc_unit.specs.declared.attributes.AttributeValue.{AttributeValue}
+use Rattle.dwc_unit.specs.GivenUnits.{GivenEntry, OrderedUnit, lists_of_entries, lists_of_units}
+use Rattle.dwc_unit.specs.Lists.{ListEntry, list_bytes, list_length, listed_length, lists_of_attributes}
+use Rattle.dwc_unit.specs.WidestGiven.{widest_listed, widest_lists}
 use Rattle.dwc_write.proofs.ListPlaces.{both-length, list-length}
 
 module _ (order : Endian) (size : ℕ) (short : size ≤ 8) (lists : AttributeValue → List ListEntry) where

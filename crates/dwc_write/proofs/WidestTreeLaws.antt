@@ -11,16 +11,16 @@ use Rattle.dwc_dwarf.specs.Trees.{Location, Tree, TreeValue}
 use Rattle.dwc_dwarf.specs.TreeLaws.{values_of}
 use Rattle.dwc_output.specs.TreeReading.{entry_or_nothing}
 use Rattle.dwc_output.specs.WidestTrees as trees
-use Rattle.dwc_write.specs.declared.expressions.Expression.{Expression}
-use Rattle.dwc_write.specs.RangeLists.{interval_of}
-use Rattle.dwc_write.specs.Lists.{ListEntry, ended, location_entry, location_of, locations_in, range_entry, ranges_in}
-use Rattle.dwc_write.specs.declared.attributes.Attribute.{Attribute}
-use Rattle.dwc_write.specs.declared.attributes.AttributeValue.{AttributeValue}
-use Rattle.dwc_write.specs.declared.attributes.AttributeValue.TheVariants.{Address, Constant, Flag, Block, Exprloc, StringRef, LineProgramRef, RangeListRef, LocationListRef, UnitRef, DebugInfoRef}
-use Rattle.dwc_write.specs.declared.attributes.DebugInfoRef.TheVariants.{Entry as entry_of}
-use Rattle.dwc_write.specs.GivenUnits.{GivenEntry, OrderedUnit, first_depth}
-use Rattle.dwc_write.specs.GivenTrees.{given_said, attribute_said, tree_entry, given_tree, trees_from}
-use Rattle.dwc_write.specs.WidestGiven.{widest_listed, widest_lists, widest_value, widest_entry, lists_of, widest_unit, widest_given, widest_said}
+use Rattle.dwc_unit.specs.declared.expressions.Expression.{Expression}
+use Rattle.dwc_unit.specs.RangeLists.{interval_of}
+use Rattle.dwc_unit.specs.Lists.{ListEntry, ended, location_entry, location_of, locations_in, range_entry, ranges_in}
+use Rattle.dwc_unit.specs.declared.attributes.Attribute.{Attribute}
+use Rattle.dwc_unit.specs.declared.attributes.AttributeValue.{AttributeValue}
+use Rattle.dwc_unit.specs.declared.attributes.AttributeValue.TheVariants.{Address, Constant, Flag, Block, Exprloc, StringRef, LineProgramRef, RangeListRef, LocationListRef, UnitRef, DebugInfoRef}
+use Rattle.dwc_unit.specs.declared.attributes.DebugInfoRef.TheVariants.{Entry as entry_of}
+use Rattle.dwc_unit.specs.GivenUnits.{GivenEntry, OrderedUnit, first_depth}
+use Rattle.dwc_unit.specs.GivenTrees.{given_said, attribute_said, tree_entry, given_tree, trees_from}
+use Rattle.dwc_unit.specs.WidestGiven.{widest_listed, widest_lists, widest_value, widest_entry, lists_of, widest_unit, widest_given, widest_said}
 
 -- sums over what is the same of each
 sums-same : {A B : Type 0} (view : A → B) (f : A → ℕ) (g : B → ℕ) → ((x : A) → f x ≡ g (view x)) → (xs : List A) → sum_by f xs ≡ sum_by g (map view xs)

@@ -2,22 +2,22 @@
 use Rattle.std.specs.Prelude.{◌≡◌, ℕ, ◌+◌, ◌<◌, ◌≤◌, List, length, map, get_or, Option, Some, None, IsSomeAnd, Result, Ok, Err}
 use Rattle.std.specs.List.{All, flat_map, list_all}
 use Rattle.dwc_base.specs.declared.section_name.SectionName.TheVariants.{Info}
-use Rattle.dwc_write.specs.declared.error.WriteError.{WriteError}
-use Rattle.dwc_write.specs.declared.error.WriteError.TheVariants.{TooLarge}
+use Rattle.dwc_section.specs.declared.error.WriteError.{WriteError}
+use Rattle.dwc_section.specs.declared.error.WriteError.TheVariants.{TooLarge}
 use Rattle.dwc_write.specs.declared.layout.UnitLayout.{UnitLayout}
 use Rattle.dwc_write.specs.declared.entries.Spelling.{Spelling}
-use Rattle.dwc_write.specs.Writers.{IsPast, IsSizeRefusal, most_bytes, section_of}
-use Rattle.dwc_write.specs.declared.file_order.FilePlace.{FilePlace}
-use Rattle.dwc_write.specs.declared.lists.ListKind.{ListKind}
-use Rattle.dwc_write.specs.declared.lists.ListKind.TheVariants.{Locations, Ranges}
+use Rattle.dwc_section.specs.Writers.{IsPast, IsSizeRefusal, most_bytes, section_of}
+use Rattle.dwc_unit.specs.declared.file_order.FilePlace.{FilePlace}
+use Rattle.dwc_unit.specs.declared.lists.ListKind.{ListKind}
+use Rattle.dwc_unit.specs.declared.lists.ListKind.TheVariants.{Locations, Ranges}
 use Rattle.dwc_write.specs.declared.notes.Notes.{Notes}
 use Rattle.dwc_write.specs.Noted.{listed_among}
 use Rattle.dwc_write.specs.ShortLists.{are_short_values}
-use Rattle.dwc_write.specs.UsedTexts.{texts_of_entries}
-use Rattle.dwc_write.specs.GivenUnits.{Addition, GivenEntry, GivenUnit, Places, in_file_order, numbered, ordered, shapes_in}
-use Rattle.dwc_write.specs.FileOrders.{looked_up}
+use Rattle.dwc_unit.specs.UsedTexts.{texts_of_entries}
+use Rattle.dwc_unit.specs.GivenUnits.{Addition, GivenEntry, GivenUnit, Places, in_file_order, numbered, ordered, shapes_in}
+use Rattle.dwc_unit.specs.FileOrders.{looked_up}
 use Rattle.dwc_write.specs.Layouts.{UnitPlaces, AllPlaces, codes_of, places_in}
-use Rattle.dwc_write.specs.SpelledTables.{table_bytes}
+use Rattle.dwc_unit.specs.SpelledTables.{table_bytes}
 
 -- where a unit and its entries stand
 abbrev pub places_view : UnitLayout → UnitPlaces

@@ -4,15 +4,15 @@ use Rattle.std.specs.Prelude.{ℕ, ◌+◌, ◌≤◌, ◌==◌, List, [], ◌�
 use Rattle.std.specs.Option.{unwrap_or}
 use Rattle.std.specs.List.{flat_map}
 use Rattle.dwc_base.specs.declared.records.Endian.{Endian}
-use Rattle.dwc_write.specs.Spelled.{at_places}
-use Rattle.dwc_write.specs.SpelledTables.{table_bytes}
-use Rattle.dwc_write.specs.SpelledUnits.{WrittenEntry, shaped, entry_bytes, entries_bytes, header_length}
+use Rattle.dwc_section.specs.Spelled.{at_places}
+use Rattle.dwc_unit.specs.SpelledTables.{table_bytes}
+use Rattle.dwc_unit.specs.SpelledUnits.{WrittenEntry, shaped, entry_bytes, entries_bytes, header_length}
 use Rattle.dwc_write.specs.SpelledSections.{WrittenUnit, WrittenTable, lines_bytes}
-use Rattle.dwc_write.specs.declared.list_places.ListPlaces.{ListPlaces}
-use Rattle.dwc_write.specs.Lists.{behind_attributes, list_bytes, locations_in, no_lists, nowhere, ranges_in}
-use Rattle.dwc_write.specs.Writers.{most_bytes}
-use Rattle.dwc_write.specs.GivenLines.{GivenLines}
-use Rattle.dwc_write.specs.GivenUnits.{GivenEntry, OrderedUnit, Places, no_places, place_of, size_of, first_uses, shapes_of, shapes_in, numbered, written_entries, lists_of_entries}
+use Rattle.dwc_unit.specs.declared.lists.ListPlaces.{ListPlaces}
+use Rattle.dwc_unit.specs.Lists.{behind_attributes, list_bytes, locations_in, no_lists, nowhere, ranges_in}
+use Rattle.dwc_section.specs.Writers.{most_bytes}
+use Rattle.dwc_unit.specs.GivenLines.{GivenLines}
+use Rattle.dwc_unit.specs.GivenUnits.{GivenEntry, OrderedUnit, Places, no_places, place_of, size_of, first_uses, shapes_of, shapes_in, numbered, written_entries, lists_of_entries}
 
 -- ---- the entries of a unit
 

@@ -1,12 +1,12 @@
 -- What a writer notes of entries while they are laid out: those that have lists of a kind.
 use Rattle.std.specs.Prelude.{List, [], ◌∷◌, Bool, true, false, if◌then◌else◌}
 use Rattle.std.specs.List.{flat_map, list_all}
-use Rattle.dwc_write.specs.declared.attributes.Attribute.{Attribute}
-use Rattle.dwc_write.specs.declared.attributes.AttributeValue.{AttributeValue}
-use Rattle.dwc_write.specs.declared.attributes.AttributeValue.TheVariants.{RangeListRef, LocationListRef}
-use Rattle.dwc_write.specs.declared.lists.ListKind.{ListKind}
-use Rattle.dwc_write.specs.declared.lists.ListKind.TheVariants.{Ranges, Locations}
-use Rattle.dwc_write.specs.GivenUnits.{GivenEntry}
+use Rattle.dwc_unit.specs.declared.attributes.Attribute.{Attribute}
+use Rattle.dwc_unit.specs.declared.attributes.AttributeValue.{AttributeValue}
+use Rattle.dwc_unit.specs.declared.attributes.AttributeValue.TheVariants.{RangeListRef, LocationListRef}
+use Rattle.dwc_unit.specs.declared.lists.ListKind.{ListKind}
+use Rattle.dwc_unit.specs.declared.lists.ListKind.TheVariants.{Ranges, Locations}
+use Rattle.dwc_unit.specs.GivenUnits.{GivenEntry}
 
 -- whether a value is no range list, and no location list
 abbrev pub has_no_ranges : AttributeValue → Bool

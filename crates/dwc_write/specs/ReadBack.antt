@@ -1,38 +1,20 @@
 -- What is written is read back as it was given.
-use Rattle.std.specs.Prelude.{◌≡◌, ℕ, zero, suc, List, [], ◌∷◌, map, slice_get, Option, Some, None, option_and_then, Ok}
+use Rattle.std.specs.Prelude.{◌≡◌, ℕ, List, [], ◌∷◌, map, Option, Some, None, Ok}
 use Rattle.std.specs.List.{AllZip}
 use Rattle.dwc_base.specs.declared.records.Endian.{Endian}
-use Rattle.dwc_base.specs.declared.records.LineRow.{LineRow}
-use Rattle.dwc_dwarf.specs.LineRows.{LineTable, SourceFile, in_directory, Row, Segment, segments}
+use Rattle.dwc_dwarf.specs.LineRows.{LineTable, segments}
 use Rattle.dwc_base.specs.Sections.{Sections}
 use Rattle.dwc_dwarf.specs.Values.{Value}
 use Rattle.dwc_dwarf.specs.Entries.{Entry}
 use Rattle.dwc_dwarf.specs.ReadUnits.{Unit, units, table_of_unit}
 use Rattle.dwc_base.specs.Outputs.{OutputSection, output_sections}
-use Rattle.dwc_write.specs.declared.attributes.Attribute.{Attribute}
-use Rattle.dwc_write.specs.SpelledUnits.{written_value}
-use Rattle.dwc_write.specs.declared.list_places.ListPlaces.{ListPlaces}
-use Rattle.dwc_write.specs.Lists.{behind_attributes}
-use Rattle.dwc_write.specs.SpelledLines.{WrittenSequence}
-use Rattle.dwc_write.specs.GivenLines.{GivenLines}
-use Rattle.dwc_write.specs.GivenUnits.{GivenEntry, OrderedUnit, Places, written_of}
-
--- ---- line tables
-
--- the file of a number, by its names
-abbrev pub given_file : GivenLines → ℕ → Option SourceFile
-given_file g zero = None
-given_file g (suc n) = option_and_then (in_directory g.directories) (slice_get g.files n)
-
-abbrev pub given_row : GivenLines → LineRow → Row
-given_row g r = record { offset = r.offset; source = record { file = given_file g r.file; line = r.line; column = r.column; is_stmt = r.is_stmt; basic_block = r.basic_block; prologue_end = r.prologue_end; epilogue_begin = r.epilogue_begin; isa = r.isa; discriminator = r.discriminator } }
-
-abbrev pub given_segment : GivenLines → WrittenSequence → Segment
-given_segment g q = record { start = q.start_address; rows = map (given_row g) q.rows; end = Some q.end_offset }
-
--- the sequences of a line program, as segments
-abbrev pub given_segments : GivenLines → List Segment
-given_segments g = map (given_segment g) g.sequences
+use Rattle.dwc_unit.specs.declared.attributes.Attribute.{Attribute}
+use Rattle.dwc_unit.specs.SpelledUnits.{written_value}
+use Rattle.dwc_unit.specs.declared.lists.ListPlaces.{ListPlaces}
+use Rattle.dwc_unit.specs.Lists.{behind_attributes}
+use Rattle.dwc_unit.specs.GivenLines.{GivenLines}
+use Rattle.dwc_unit.specs.GivenUnits.{GivenEntry, OrderedUnit, Places, written_of}
+use Rattle.dwc_unit.specs.GivenSegments.{given_segments}
 
 -- ---- entries
 

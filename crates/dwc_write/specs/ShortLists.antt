@@ -2,11 +2,11 @@
 use Rattle.std.specs.Prelude.{ℕ, ◌^◌, List, length, Bool, true, nat_lt}
 use Rattle.std.specs.List.{list_all}
 use Rattle.dwc_base.specs.declared.records.Address.{Address}
-use Rattle.dwc_write.specs.declared.attributes.Attribute.{Attribute}
-use Rattle.dwc_write.specs.declared.attributes.AttributeValue.{AttributeValue}
-use Rattle.dwc_write.specs.declared.attributes.AttributeValue.TheVariants.{LocationListRef}
-use Rattle.dwc_write.specs.declared.expressions.Expression.{Expression}
-use Rattle.dwc_write.specs.GivenUnits.{OrderedUnit}
+use Rattle.dwc_unit.specs.declared.attributes.Attribute.{Attribute}
+use Rattle.dwc_unit.specs.declared.attributes.AttributeValue.{AttributeValue}
+use Rattle.dwc_unit.specs.declared.attributes.AttributeValue.TheVariants.{LocationListRef}
+use Rattle.dwc_unit.specs.declared.expressions.Expression.{Expression}
+use Rattle.dwc_unit.specs.GivenUnits.{OrderedUnit}
 
 abbrev pub is_short_location : Address × ℕ × Expression → Bool
 is_short_location l = nat_lt (length l.2) (2 ^ 16)

@@ -5,21 +5,21 @@ use Rattle.dwc_base.specs.declared.section_name.SectionName.{SectionName}
 use Rattle.dwc_base.specs.declared.section_name.SectionName.TheVariants.{Abbrev, Info, Line, Loc, Ranges, Str}
 use Rattle.dwc_base.specs.Sections.{section_text}
 use Rattle.dwc_base.specs.Outputs.{OutputRelocation, OutputSection}
-use Rattle.dwc_write.specs.declared.error.WriteError.{WriteError}
-use Rattle.dwc_write.specs.SpelledTables.{table_bytes}
+use Rattle.dwc_section.specs.declared.error.WriteError.{WriteError}
+use Rattle.dwc_unit.specs.SpelledTables.{table_bytes}
 use Rattle.dwc_write.specs.SpelledSections.{WrittenUnit, placed_unit_bytes, tables_bytes, info_bytes, lines_bytes}
 use Rattle.dwc_write.specs.SpelledRelocations.{unit_relocations, info_relocations, lines_relocations}
-use Rattle.dwc_write.specs.GivenLines.{no_lines}
-use Rattle.dwc_write.specs.GivenUnits.{AreWritable, GivenEntry, OrderedUnit, Places, size_of, first_uses, shapes_of, numbered, written_entries, lists_of_entries, lists_of_units}
-use Rattle.dwc_write.specs.declared.attributes.AttributeValue.{AttributeValue}
-use Rattle.dwc_write.specs.declared.list_places.ListPlaces.{ListPlaces}
-use Rattle.dwc_write.specs.Lists.{ListEntry, behind_attributes, list_bytes, list_relocations, locations_in, no_lists, ranges_in}
-use Rattle.dwc_write.specs.UsedTexts.{strings_bytes, text_places}
+use Rattle.dwc_unit.specs.GivenLines.{no_lines}
+use Rattle.dwc_unit.specs.GivenUnits.{AreWritable, GivenEntry, OrderedUnit, Places, size_of, first_uses, shapes_of, numbered, written_entries, lists_of_entries, lists_of_units}
+use Rattle.dwc_unit.specs.declared.attributes.AttributeValue.{AttributeValue}
+use Rattle.dwc_unit.specs.declared.lists.ListPlaces.{ListPlaces}
+use Rattle.dwc_unit.specs.Lists.{ListEntry, behind_attributes, list_bytes, list_relocations, locations_in, no_lists, ranges_in}
+use Rattle.dwc_unit.specs.UsedTexts.{strings_bytes, text_places}
 use Rattle.dwc_write.specs.Layouts.{AllPlaces, offsets_by_number, places_of_units, places_in, written_lines, written_unit, written_units, written_tables}
 use Rattle.dwc_output.specs.FramesCarried.{others_in}
 use Rattle.dwc_dwarf.specs.TreeLaws.{have_short_expressions}
-use Rattle.dwc_write.specs.GivenTrees.{given_trees}
-use Rattle.dwc_write.specs.Writers.{IsRefusalFor, IsSizeRefusal, Writing, Refuses, appended, most_bytes}
+use Rattle.dwc_unit.specs.GivenTrees.{given_trees}
+use Rattle.dwc_section.specs.Writers.{IsRefusalFor, IsSizeRefusal, Writing, Refuses, appended, most_bytes}
 
 -- a section, where it is not empty
 abbrev pub section_unless_empty : SectionName → List ℕ → List OutputRelocation → List OutputSection

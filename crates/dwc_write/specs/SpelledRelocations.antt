@@ -1,16 +1,16 @@
 -- The relocations of what is spelled: one at each address of a function, and one at each offset in a section. The laws are in
 -- `ReadRelocations`.
-use Rattle.std.specs.Prelude.{ℕ, ◌+◌, ◌≤◌, List, [], ◌∷◌, length}
+use Rattle.std.specs.Prelude.{ℕ, ◌+◌, List, [], ◌∷◌, length}
 use Rattle.dwc_base.specs.declared.records.Endian.{Endian}
 use Rattle.dwc_base.specs.declared.section_name.SectionName.TheVariants.{Abbrev, Info, Str}
-use Rattle.dwc_base.specs.Outputs.{OutputRelocation, OutputSection}
+use Rattle.dwc_base.specs.Outputs.{OutputRelocation}
 use Rattle.dwc_base.specs.NumberBytes.{uleb_bytes}
-use Rattle.dwc_write.specs.Spelled.{at_places}
-use Rattle.dwc_write.specs.SpelledAddresses.{address_bytes}
-use Rattle.dwc_write.specs.SpelledUnits.{Written, as_addr, as_strp, as_ref_addr, as_sec_offset, WrittenAttribute, attribute_bytes, Shaped, shaped, entry_bytes, header_length}
-use Rattle.dwc_write.specs.SpelledLines.{WrittenSequence, program_bytes, program_place, sequence_instructions}
+use Rattle.dwc_section.specs.Spelled.{at_places}
+use Rattle.dwc_section.specs.SpelledAddresses.{address_bytes}
+use Rattle.dwc_unit.specs.SpelledUnits.{Written, as_addr, as_strp, as_ref_addr, as_sec_offset, WrittenAttribute, attribute_bytes, Shaped, shaped, entry_bytes, header_length}
+use Rattle.dwc_unit.specs.SpelledLines.{WrittenSequence, program_bytes, program_place, sequence_instructions}
 use Rattle.dwc_write.specs.SpelledSections.{WrittenUnit, placed_unit_bytes, WrittenTable, one_table_bytes}
-use Rattle.dwc_write.specs.Writers.{address_relocations, offset_relocation}
+use Rattle.dwc_section.specs.Writers.{address_relocations, offset_relocation}
 
 -- ---- units
 
@@ -54,14 +54,3 @@ one_table_relocations order size place t = sequences_relocations order size (pla
 
 abbrev pub lines_relocations : Endian → ℕ → ℕ → List WrittenTable → List OutputRelocation
 lines_relocations order size place ts = at_places (one_table_bytes order size) (one_table_relocations order size) place ts
-
--- ---- their places
-
--- one behind another between two places
-abbrev pub RelocationsRise : ℕ → ℕ → List OutputRelocation → Type 0
-RelocationsRise low high [] = low ≤ high
-RelocationsRise low high (r ∷ rs) = (low ≤ r.offset) × RelocationsRise (r.offset + r.size) high rs
-
--- those of a section, within its body
-abbrev pub DoRelocationsRise : OutputSection → Type 0
-DoRelocationsRise s = RelocationsRise 0 (length s.body) s.relocations

@@ -6,11 +6,11 @@ use Rattle.dwc_base.specs.Abbreviations.{Declaration}
 use Rattle.dwc_dwarf.specs.LineHeaders.{LineFile}
 use Rattle.dwc_dwarf.specs.LineRows.{LineTable}
 use Rattle.dwc_dwarf.specs.ReadUnits.{Unit as ReadUnit}
-use Rattle.dwc_write.specs.Spelled.{at_places}
-use Rattle.dwc_write.specs.SpelledTables.{table_bytes, FitsDeclaration}
-use Rattle.dwc_write.specs.SpelledAddresses.{AddressField}
-use Rattle.dwc_write.specs.SpelledUnits.{WrittenEntry, shaped, FitsEntry, IsTree, unit_body, unit_bytes, header_length, read_header, entries_fields, read_entries}
-use Rattle.dwc_write.specs.SpelledLines.{FitsName, FitsFile, WrittenSequence, FitsSequence, line_body, line_table_bytes, program_place, program_fields, sequences_instructions, read_line_table}
+use Rattle.dwc_section.specs.Spelled.{at_places}
+use Rattle.dwc_unit.specs.SpelledTables.{table_bytes, FitsDeclaration}
+use Rattle.dwc_section.specs.SpelledAddresses.{AddressField}
+use Rattle.dwc_unit.specs.SpelledUnits.{WrittenEntry, shaped, FitsEntry, IsTree, unit_body, unit_bytes, header_length, read_header, entries_fields, read_entries}
+use Rattle.dwc_unit.specs.SpelledLines.{FitsName, FitsFile, WrittenSequence, FitsSequence, line_body, line_table_bytes, program_place, program_fields, sequences_instructions, read_line_table}
 
 -- ---- units
 

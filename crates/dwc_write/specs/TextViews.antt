@@ -2,12 +2,12 @@
 use Rattle.std.specs.Prelude.{◌≡◌, ℕ, ◌+◌, ◌<◌, ◌≤◌, List, [], ◌∷◌, ◌++◌, length, IsSomeAnd, Result, Ok, Err}
 use Rattle.std.specs.List.{All}
 use Rattle.dwc_base.specs.declared.section_name.SectionName.TheVariants.{Str}
-use Rattle.dwc_write.specs.declared.error.WriteError.{WriteError}
-use Rattle.dwc_write.specs.declared.error.WriteError.TheVariants.{TooLarge}
+use Rattle.dwc_section.specs.declared.error.WriteError.{WriteError}
+use Rattle.dwc_section.specs.declared.error.WriteError.TheVariants.{TooLarge}
 use Rattle.dwc_write.specs.declared.text_layout.TextLayout.{TextLayout}
-use Rattle.dwc_write.specs.Writers.{IsPast, IsSizeRefusal, most_bytes, section_of}
-use Rattle.dwc_write.specs.GivenUnits.{place_of}
-use Rattle.dwc_write.specs.UsedTexts.{place_of_text, texts_bytes, with_numbers}
+use Rattle.dwc_section.specs.Writers.{IsPast, IsSizeRefusal, most_bytes, section_of}
+use Rattle.dwc_unit.specs.GivenUnits.{place_of}
+use Rattle.dwc_unit.specs.UsedTexts.{place_of_text, texts_bytes, with_numbers}
 
 -- The texts of a table that are used stand one behind another, within the most bytes of a section.
 pub record IsTextLayout (texts : List (List ℕ)) (l : TextLayout) : Type 0 where

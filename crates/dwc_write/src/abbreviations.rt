@@ -1,22 +1,15 @@
 //! Abbreviation tables: what the entries of a unit have, and their codes. (DWARF 4, section 7.5.3.)
 ghost use Rattle.std.specs.Prelude.{◌≡◌, ◌++◌, ◌==◌, ◌&&◌, OnOk, IfOk, map};
 ghost use Rattle.std.specs.List.{All, flat_map};
-ghost use Rattle.dwc_write.specs.SpelledTables.{table_bytes};
-ghost use Rattle.dwc_write.specs.GivenUnits.{AreOwn, IsPlainShape, code_in, form_bytes, form_of as form_of_attribute, forms_of, numbered, same_forms, same_shape, shape_bytes, with_use};
+ghost use Rattle.dwc_unit.specs.SpelledTables.{table_bytes};
+ghost use Rattle.dwc_unit.specs.GivenUnits.{AreOwn, IsPlainShape, code_in, form_bytes, form_of as form_of_attribute, forms_of, numbered, same_forms, same_shape, shape_bytes, with_use};
 ghost use Rattle.dwc_write.specs.ShapeViews.{shape_view};
 
-use crate::append::put_uleb;
-use crate::attributes::{KeptAttribute, form_of};
+use dwc_section::put_uleb;
+use dwc_unit::attributes::{AttributeForm, KeptAttribute, form_of};
 use indexmap::IndexSet;
 use smallvec::SmallVec;
 use std::alloc::{AllocError, Global};
-
-/// An attribute of a declaration: its name and its form.
-#[derive(Clone, Copy, Debug, Default, PartialEq, Eq, Hash)]
-pub struct AttributeForm {
-    pub(crate) name: u16,
-    pub(crate) form: u16,
-}
 
 // Most declarations have no more attributes.
 const USUAL_ATTRIBUTES: usize = 6;

@@ -2,30 +2,32 @@
 ghost use Rattle.std.specs.Prelude.{◌≡◌, ◌++◌, ◌∷◌, [], ◌+◌, ◌<◌, ◌≤◌, ◌⊎◌, OnOk, map, length, get_or, replicate};
 ghost use Rattle.std.specs.List.{All, flat_map};
 ghost use Rattle.dwc_base.specs.NumberBytes.{number_bytes, sleb_bytes, uleb_bytes};
-ghost use Rattle.dwc_write.specs.Spelled.{block_bytes};
-ghost use Rattle.dwc_write.specs.SpelledUnits.{attribute_bytes, entry_bytes, shaped, written_bytes};
+ghost use Rattle.dwc_section.specs.Spelled.{block_bytes};
+ghost use Rattle.dwc_unit.specs.SpelledUnits.{attribute_bytes, entry_bytes, shaped, written_bytes};
 ghost use Rattle.dwc_write.specs.SpelledRelocations.{entries_relocations, value_relocations, values_relocations};
-ghost use Rattle.dwc_write.specs.GivenUnits.{FitsAttribute, FitsEntry as FitsGivenEntry, FitsOperand, constant_of, first_uses, numbered, shapes_of, behind_entries, written_attributes, written_entries, written_of};
-ghost use Rattle.dwc_write.specs.FileOrders.{looked_up};
+ghost use Rattle.dwc_unit.specs.GivenUnits.{FitsAttribute, FitsEntry as FitsGivenEntry, FitsOperand, constant_of, first_uses, numbered, shapes_of, behind_entries, written_attributes, written_entries, written_of};
+ghost use Rattle.dwc_unit.specs.FileOrders.{looked_up};
 ghost use Rattle.dwc_write.specs.LayoutViews.{places_view, spelling_places};
 ghost use Rattle.dwc_write.specs.Layouts.{AreShort, codes_of, offset_in_section, offset_of_text};
-ghost use Rattle.dwc_write.specs.SpelledTables.{table_bytes};
+ghost use Rattle.dwc_unit.specs.SpelledTables.{table_bytes};
 ghost use Rattle.dwc_write.specs.SpelledOutput.{WritesUnit};
-ghost use Rattle.dwc_write.specs.Lists.{AreWithin, behind_attributes as behind_all};
+ghost use Rattle.dwc_unit.specs.Lists.{AreWithin, behind_attributes as behind_all};
 ghost use Rattle.dwc_base.specs.declared.section_name.SectionName.TheVariants.{Abbrev};
-ghost use Rattle.dwc_write.specs.Writers.{Writes, most_bytes, offset_relocation};
+ghost use Rattle.dwc_section.specs.Writers.{Writes, most_bytes, offset_relocation};
 
-use crate::additions::Additions;
-use crate::append::{bytes_2, put_sleb, put_uleb};
-use crate::attributes::{Held, KeptAttribute};
-use crate::file_order::{FilePlace, depth_of_first};
 use crate::layout::UnitLayout;
-use crate::list_places::{ListPlaces, behind_value};
-use crate::{DebugInfoRef, StringId, UnitEntryId, UnitId, WriteError, WriterRelocate};
+use crate::list_places::behind_value;
 use dwc_base::constants::{
     DW_FORM_data1, DW_FORM_data2, DW_FORM_data4, DW_FORM_data8, DW_FORM_sdata,
 };
 use dwc_base::{Endian, SectionName};
+use dwc_section::append::{bytes_2, put_sleb};
+use dwc_section::{WriteError, WriterRelocate, put_uleb};
+use dwc_unit::additions::Additions;
+use dwc_unit::attributes::{Held, KeptAttribute};
+use dwc_unit::file_order::{FilePlace, depth_of_first};
+use dwc_unit::lists::ListPlaces;
+use dwc_unit::{DebugInfoRef, StringId, UnitEntryId, UnitId};
 
 // How the values of a unit are written: the order of bytes, the size of an address, and where what they name stands: the unit's
 // line table, its lists with their ends, its entries by their numbers, the entries of all units, and texts by their numbers.

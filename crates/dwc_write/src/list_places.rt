@@ -1,18 +1,12 @@
 //! Where lists stand, found before their values are written: each kind in a section of its own, one list behind another. (DWARF 4,
 //! sections 2.17.3 and 2.6.2.)
 ghost use Rattle.std.specs.Prelude.{◌≡◌, ◌≤◌, ◌+◌, map};
-ghost use Rattle.dwc_write.specs.Lists.{AreWithin, behind_value as behind_one, ended, list_length};
-ghost use Rattle.dwc_write.specs.Writers.{most_bytes};
+ghost use Rattle.dwc_unit.specs.Lists.{AreWithin, behind_value as behind_one, ended, list_length};
+ghost use Rattle.dwc_section.specs.Writers.{most_bytes};
 
-use crate::attributes::{Held, KeptAttribute};
 use crate::lists::{Listed, held_length};
-
-/// Where the next range list and the next location list stand, each in its section.
-#[derive(Clone, Copy)]
-pub struct ListPlaces {
-    pub ranges: usize,
-    pub locations: usize,
-}
+use dwc_unit::attributes::{Held, KeptAttribute};
+use dwc_unit::lists::ListPlaces;
 
 /// Where the next lists stand behind that of a value, if it has one.
 pub fn behind_value(places: ListPlaces, size: u8, attribute: &KeptAttribute) -> ListPlaces

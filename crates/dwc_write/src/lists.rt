@@ -1,84 +1,25 @@
-//! Range lists and location lists, as they are given and as they are written. (DWARF 4, sections 2.17.3 and 2.6.2.)
+//! Range lists and location lists, as they are written. (DWARF 4, sections 2.17.3 and 2.6.2.)
 ghost use Rattle.std.specs.Prelude.{◌≡◌, ◌≤◌, ◌<◌, ◌⊎◌, ◌^◌, ◌+ℤ◌, [], Some, pos, length, map, option_map, FitsSigned};
 ghost use Rattle.std.specs.Int.{w64};
 ghost use Rattle.std.specs.List.{All};
-ghost use Rattle.dwc_write.specs.FileOrders.{looked_up};
-ghost use Rattle.dwc_write.specs.GivenUnits.{lists_of_entries};
-ghost use Rattle.dwc_write.specs.Lists.{FitsListed, ended, held_bytes, held_length as length_held, list_bytes, list_relocations, listed_bytes, listed_relocations, lists_by, lists_of_attributes, ranges_in, locations_in};
-ghost use Rattle.dwc_write.specs.RangeLists.{address_behind as address_behind_by};
-ghost use Rattle.dwc_write.specs.Writers.{FitsField, Writes};
+ghost use Rattle.dwc_unit.specs.FileOrders.{looked_up};
+ghost use Rattle.dwc_unit.specs.GivenUnits.{lists_of_entries};
+ghost use Rattle.dwc_unit.specs.Lists.{FitsListed, ended, held_bytes, held_length as length_held, list_bytes, list_relocations, listed_bytes, listed_relocations, lists_by, lists_of_attributes, ranges_in, locations_in};
+ghost use Rattle.dwc_unit.specs.RangeLists.{address_behind as address_behind_by};
+ghost use Rattle.dwc_section.specs.Writers.{FitsField, Writes};
 
-use crate::additions::Additions;
-use crate::attributes::{Held, KeptAttribute};
-use crate::expressions::Expression;
-use crate::file_order::FilePlace;
-use crate::{WriteError, WriterRelocate};
 use dwc_base::Address;
-use std::marker::Model;
-
-/// A range list: intervals of addresses in order, each by where it begins and how many bytes it has.
-#[derive(Debug, Drop)]
-pub struct RangeList {
-    ranges: Vec<(Address, u64)>,
-}
-
-impl RangeList {
-    /// The list of some intervals.
-    pub fn new(ranges: Vec<(Address, u64)>) -> RangeList
-        ensures { result ≡ record { ranges = ranges } }
-    {
-        RangeList { ranges }
-    }
-
-    /// Its intervals.
-    pub fn as_slice(&self) -> &[(Address, u64)]
-        ensures { result.now ≡ self.now.ranges.items }
-    {
-        self.ranges.as_slice()
-    }
-}
-
-/// A location list: intervals of addresses in order, each with the expression that holds there.
-#[derive(Debug, Drop)]
-pub struct LocationList {
-    locations: Vec<(Address, u64, Expression)>,
-}
-
-impl Model for LocationList {
-    ghost use Rattle.dwc_write.specs.LocationLists as seen;
-
-    ghost Value = { seen.LocationList };
-
-    ghost view = { λ l. record { locations = record { items = l.locations.items } } };
-}
-
-impl LocationList {
-    /// The list of some intervals, each by where it begins and how many bytes it has.
-    pub fn new(locations: Vec<(Address, u64, Expression)>) -> LocationList
-        ensures { result ≡ record { locations = record { items = locations.items } } }
-    {
-        LocationList { locations }
-    }
-
-    // Its intervals with their expressions, taken out.
-    pub(crate) fn into_locations(self) -> Vec<(Address, u64, Expression)>
-        ensures { result.items ≡ self.locations.items }
-    {
-        self.locations
-    }
-
-    /// Its intervals with their expressions.
-    pub fn as_slice(&self) -> &[(Address, u64, Expression)]
-        ensures { result.now ≡ self.now.locations.items }
-    {
-        self.locations.as_slice()
-    }
-}
+use dwc_section::{WriteError, WriterRelocate};
+use dwc_unit::Expression;
+use dwc_unit::additions::Additions;
+use dwc_unit::attributes::{Held, KeptAttribute};
+use dwc_unit::file_order::FilePlace;
+use dwc_unit::lists::ListKind;
 
 /// An entry of a list, of either kind.
 pub trait Listed {
     ghost use Rattle.std.specs.Prelude.{◌≡◌, option_map};
-    ghost use Rattle.dwc_write.specs.Lists.{ListEntry};
+    ghost use Rattle.dwc_unit.specs.Lists.{ListEntry};
 
     ghost listed: { Self → ListEntry };
 
@@ -96,7 +37,7 @@ pub trait Listed {
 }
 
 impl Listed for (Address, u64) {
-    ghost use Rattle.dwc_write.specs.Lists.{range_entry};
+    ghost use Rattle.dwc_unit.specs.Lists.{range_entry};
 
     ghost listed = { range_entry };
 
@@ -114,7 +55,7 @@ impl Listed for (Address, u64) {
 }
 
 impl Listed for (Address, u64, Expression) {
-    ghost use Rattle.dwc_write.specs.Lists.{location_entry};
+    ghost use Rattle.dwc_unit.specs.Lists.{location_entry};
 
     ghost listed = { location_entry };
 
@@ -129,13 +70,6 @@ impl Listed for (Address, u64, Expression) {
     fn expression(&self) -> Option<&[u8]> {
         Some(self.2.as_slice())
     }
-}
-
-/// The two kinds of lists, each of which stands in a section of its own.
-#[derive(Clone, Copy)]
-pub enum ListKind {
-    Ranges,
-    Locations,
 }
 
 /// The lists of a kind of entries in file order, one behind another.

@@ -2,22 +2,22 @@
 ghost use Rattle.std.specs.Prelude.{◌≡◌, ◌++◌, ◌≤◌, ◌⊎◌, [], true, IfOk, OnOk, ◌&&◌, length};
 ghost use Rattle.std.specs.List.{flat_map};
 ghost use Rattle.dwc_base.specs.declared.records.Endian.{Endian};
-ghost use Rattle.dwc_write.specs.GivenUnits.{no_places, written_attributes, written_of};
+ghost use Rattle.dwc_unit.specs.GivenUnits.{no_places, written_attributes, written_of};
 ghost use Rattle.dwc_write.specs.LayoutViews.{AdvancesOrMemory};
-ghost use Rattle.dwc_write.specs.Lists.{no_lists, nowhere};
+ghost use Rattle.dwc_unit.specs.Lists.{no_lists, nowhere};
 ghost use Rattle.dwc_write.specs.Noted.{are_free, if_listed, is_free};
 ghost use Rattle.dwc_write.specs.ShortLists.{are_short_values};
-ghost use Rattle.dwc_write.specs.SpelledUnits.{attribute_bytes, written_bytes};
-ghost use Rattle.dwc_write.specs.declared.lists.ListKind.TheVariants.{Locations, Ranges};
-ghost use Rattle.dwc_write.specs.UsedTexts.{text_of_value, texts_of_attributes};
-ghost use Rattle.dwc_write.specs.Writers.{most_bytes};
+ghost use Rattle.dwc_unit.specs.SpelledUnits.{attribute_bytes, written_bytes};
+ghost use Rattle.dwc_unit.specs.declared.lists.ListKind.TheVariants.{Locations, Ranges};
+ghost use Rattle.dwc_unit.specs.UsedTexts.{text_of_value, texts_of_attributes};
+ghost use Rattle.dwc_section.specs.Writers.{most_bytes};
 
-use crate::WriteError;
-use crate::attributes::{Held, KeptAttribute};
-use crate::file_order::FilePlace;
 use crate::room::{Counts, NO_COUNTS, count_locations, count_ranges, count_relocated};
 use crate::short_lists::has_short_values;
 use crate::sizes::{advanced, block_size, constant_size, in_four_bytes};
+use dwc_section::WriteError;
+use dwc_unit::attributes::{Held, KeptAttribute};
+use dwc_unit::file_order::FilePlace;
 use std::alloc::{AllocError, Global};
 
 // What is noted of entries, in file order.

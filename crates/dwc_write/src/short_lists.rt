@@ -2,17 +2,16 @@
 //! section 2.6.2.)
 ghost use Rattle.std.specs.Prelude.{◌≡◌, IfOk};
 ghost use Rattle.std.specs.List.{AllZip, list_all};
-ghost use Rattle.dwc_write.specs.GivenUnits.{ordered};
+ghost use Rattle.dwc_unit.specs.GivenUnits.{ordered};
 ghost use Rattle.dwc_write.specs.LayoutViews.{IsLaidOut};
 ghost use Rattle.dwc_write.specs.ShortLists.{are_short_values, is_short_location, is_short_unit, is_short_value};
 
-use crate::WriteError;
-use crate::additions::Additions;
-use crate::attributes::{Held, KeptAttribute};
-use crate::expressions::Expression;
 use crate::layout::UnitLayout;
-use crate::units::Unit;
 use dwc_base::Address;
+use dwc_section::WriteError;
+use dwc_unit::additions::Additions;
+use dwc_unit::attributes::{Held, KeptAttribute};
+use dwc_unit::{Expression, Unit};
 
 /// Whether all expressions of the location lists of units are, as it is noted where they could be laid out.
 #[tactic(auto, using(crate::proofs::NotedLaws::short_noted))]

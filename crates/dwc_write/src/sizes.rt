@@ -1,65 +1,20 @@
 //! How long values are, and the places behind them. (DWARF 4, sections 7.5.4 and 7.6.)
-ghost use Rattle.std.specs.Prelude.{◌≡◌, ◌≤◌, IfOk, length, negsuc, pos};
+ghost use Rattle.std.specs.Prelude.{◌≡◌, ◌≤◌, IfOk, length};
 ghost use Rattle.dwc_base.specs.declared.records.Endian.{Endian};
-ghost use Rattle.dwc_write.specs.GivenUnits.{constant_of};
+ghost use Rattle.dwc_unit.specs.GivenUnits.{constant_of};
 ghost use Rattle.dwc_write.specs.LayoutViews.{Advances};
-ghost use Rattle.dwc_base.specs.NumberBytes.{sleb_bytes, uleb_bytes};
-ghost use Rattle.dwc_write.specs.Spelled.{block_bytes};
-ghost use Rattle.dwc_write.specs.SpelledUnits.{written_bytes};
-ghost use Rattle.dwc_write.specs.Writers.{most_bytes};
+ghost use Rattle.dwc_section.specs.Spelled.{block_bytes};
+ghost use Rattle.dwc_unit.specs.SpelledUnits.{written_bytes};
+ghost use Rattle.dwc_section.specs.Writers.{most_bytes};
 
-use crate::WriteError;
-use crate::writer::MOST_BYTES;
 use dwc_base::constants::{
     DW_FORM_data1, DW_FORM_data2, DW_FORM_data4, DW_FORM_data8, DW_FORM_sdata,
 };
 use dwc_base::{Limit, SectionName};
+use dwc_section::WriteError;
+use dwc_section::leb_sizes::{sleb_length, uleb_length};
+use dwc_section::writer::MOST_BYTES;
 use std::alloc::AllocError;
-
-// How many bytes an unsigned LEB128 number has.
-pub fn uleb_length(value: u64) -> u8
-    ensures length { result ≡ length (uleb_bytes value) }
-    ensures most { result ≤ 10 }
-{
-    let mut rest = value;
-    let mut count: u8 = 1;
-    while rest >= 128 {
-        rest /= 128;
-        count += 1;
-    }
-    count
-}
-
-// How many bytes a signed LEB128 number has.
-fn sleb_length(value: i64) -> u8
-    ensures { result ≡ length (sleb_bytes value) }
-{
-    if value < 0 {
-        sleb_length_below_0((-(value + 1)) as u64)
-    } else {
-        sleb_length_from_0(value as u64)
-    }
-}
-
-// The number that is so much below -1.
-#[tactic(auto, using(crate::proofs::SizeLaws::below_length))]
-fn sleb_length_below_0(value: u64) -> u8
-    ensures { result ≡ length (sleb_bytes (negsuc value)) }
-{
-    sleb_length_from_0(value)
-}
-
-fn sleb_length_from_0(value: u64) -> u8
-    ensures { result ≡ length (sleb_bytes (pos value)) }
-{
-    let mut rest = value;
-    let mut count: u8 = 1;
-    while rest >= 64 {
-        rest /= 128;
-        count += 1;
-    }
-    count
-}
 
 // How many bytes a block has with its length.
 pub fn block_size(bytes: &[u8]) -> usize

@@ -2,23 +2,24 @@
 ghost use Rattle.std.specs.Prelude.{◌≡◌, ◌++◌, ◌∷◌, [], ◌+◌, ◌⊎◌, OnOk, map, length};
 ghost use Rattle.std.specs.List.{All, flat_map};
 ghost use Rattle.dwc_base.specs.NumberBytes.{number_bytes};
-ghost use Rattle.dwc_write.specs.Spelled.{sized_bytes, text_bytes};
-ghost use Rattle.dwc_write.specs.SpelledAddresses.{address_bytes};
-ghost use Rattle.dwc_write.specs.SpelledLines.{file_bytes, line_fields_bytes};
+ghost use Rattle.dwc_section.specs.Spelled.{sized_bytes, text_bytes};
+ghost use Rattle.dwc_section.specs.SpelledAddresses.{address_bytes};
+ghost use Rattle.dwc_unit.specs.SpelledLines.{file_bytes, line_fields_bytes};
 ghost use Rattle.dwc_write.specs.SpelledSections.{lines_bytes};
 ghost use Rattle.dwc_write.specs.SpelledRelocations.{lines_relocations, sequence_bytes, sequence_relocations, sequences_relocations};
-ghost use Rattle.dwc_write.specs.GivenLines.{FitsGivenSequence, FitsLines};
-ghost use Rattle.dwc_write.specs.GivenUnits.{IsOfSize};
+ghost use Rattle.dwc_unit.specs.GivenLines.{FitsGivenSequence, FitsLines};
+ghost use Rattle.dwc_unit.specs.GivenUnits.{IsOfSize};
 ghost use Rattle.dwc_write.specs.Layouts.{written_lines};
-ghost use Rattle.dwc_write.specs.LineViews.{sequence_view};
-ghost use Rattle.dwc_write.specs.Writers.{FitsField, Writes, address_relocations};
+ghost use Rattle.dwc_unit.specs.LineViews.{sequence_view};
+ghost use Rattle.dwc_section.specs.Writers.{FitsField, Writes, address_relocations};
 
-use crate::append::{bytes_2, put_text, put_uleb};
-use crate::lines::Sequence;
-use crate::names::{Files, Names};
-use crate::{LineProgram, WriteError, WriterRelocate};
 use dwc_base::constants::DW_LNE_set_address;
 use dwc_base::{Address, Endian};
+use dwc_section::append::{bytes_2, put_text};
+use dwc_section::{WriteError, WriterRelocate, put_uleb};
+use dwc_unit::LineProgram;
+use dwc_unit::lines::Sequence;
+use dwc_unit::names::{Files, Names};
 use std::alloc::AllocError;
 
 // The most bytes of the instruction that sets the address of a sequence.

@@ -3,17 +3,17 @@
 ghost use Rattle.std.specs.Prelude.{◌≡◌, ◌++◌, ◌∷◌, [], ◌<◌, ◌≤◌, OnOk, IfOk, IfErr, IsOkUnless, length, map};
 ghost use Rattle.std.specs.List.{All};
 ghost use Rattle.dwc_base.specs.declared.section_name.SectionName.TheVariants.{Str};
-ghost use Rattle.dwc_write.specs.declared.error.WriteError.TheVariants.{OutOfMemory};
+ghost use Rattle.dwc_section.specs.declared.error.WriteError.TheVariants.{OutOfMemory};
 ghost use Rattle.dwc_write.specs.LayoutViews.{texts_noted};
 ghost use Rattle.dwc_write.specs.TextViews.{IsTextLayout, IsTextRefusal, UsesTexts, BehindText};
-ghost use Rattle.dwc_write.specs.UsedTexts.{texts_bytes, with_numbers};
-ghost use Rattle.dwc_write.specs.Writers.{Writes, most_bytes};
+ghost use Rattle.dwc_unit.specs.UsedTexts.{texts_bytes, with_numbers};
+ghost use Rattle.dwc_section.specs.Writers.{Writes, most_bytes};
 
 use crate::layout::UnitLayout;
-use crate::text::Text;
-use crate::writer::MOST_BYTES;
-use crate::{WriteError, WriterRelocate};
 use dwc_base::{Endian, Limit, SectionName};
+use dwc_section::writer::MOST_BYTES;
+use dwc_section::{WriteError, WriterRelocate};
+use dwc_unit::text::Text;
 use std::alloc::Global;
 
 // Texts as they will stand.

@@ -1,6 +1,6 @@
 use Rattle.std.proofs.Common.{ap, sym, ◌∙◌}
 use Rattle.std.specs.Prelude.{option_map}
-use Rattle.dwc_clif.specs.declared.instruction_maps.Gap.{Gap}
+use Rattle.dwc_compiled.specs.declared.instruction_maps.Gap.{Gap}
 use Rattle.dwc_addr.proofs.NativeLaws.{below-parts, gap-none, gap-other, gap-found, no_gap}
 use Rattle.dwc_addr.proofs.positions.gap_behind.Goals as goal
 

@@ -1,5 +1,5 @@
 use Rattle.std.proofs.Common.{◌∙◌, ap, rules, map}
-use Rattle.dwc_clif.specs.AddressMaps.{address_map_view}
+use Rattle.dwc_compiled.specs.AddressMaps.{address_map_view}
 use Rattle.dwc_addr.specs.Runs.{recorded_view}
 use Rattle.std.proofs.lemmas.List.{length-map}
 use Rattle.dwc_addr.proofs.EntryLaws.{entries-merged, gaps-rise, good-entries, sources-counted}

@@ -1,6 +1,6 @@
 use Rattle.std.proofs.Common.{◌≡◌, ◌+◌, ◌++◌, map, length, drop}
 use Rattle.dwc_native.specs.Functions.{functions_of}
-use Rattle.dwc_clif.specs.AddressMaps.{address_map_view}
+use Rattle.dwc_compiled.specs.AddressMaps.{address_map_view}
 use Rattle.dwc_addr.specs.Transforms.{function_view, first_bad_map}
 use Rattle.dwc_addr.proofs.transform.function_maps.Given as goal
 

@@ -4,16 +4,16 @@ use Rattle.std.proofs.lemmas.List.Elements.{All-get_or}
 use Rattle.std.proofs.lemmas.Result.{err_from_is_err_and}
 use Rattle.dwc_native.specs.Addends.{HaveAddends}
 use Rattle.dwc_image.specs.CarriedLines.{AreKept}
-use Rattle.dwc_clone.specs.CompiledModules.{told_by}
+use Rattle.dwc_source.specs.CompiledModules.{told_by}
 use Rattle.dwc_carry.specs.CarriedModules.{transformed_module}
 use Rattle.dwc_carry.specs.Inputs.{names_of, modules_of, told_from}
 use Rattle.dwc_carry.proofs.CompiledLaws.{module-next, modules-length, transforms-inside}
-use Rattle.dwc_write.specs.declared.units.Dwarf.{Dwarf}
-use Rattle.dwc_carried.specs.Forests.{own_refusals}
+use Rattle.dwc_unit.specs.declared.units.Dwarf.{Dwarf}
+use Rattle.dwc_carried.specs.Forests.{synthetic_refusals}
 use Rattle.dwc_base.specs.Listing.{first_of}
 use Rattle.dwc_carry.specs.Refusals.{RefusesReading}
-use Rattle.dwc_carry.specs.OwnUnits.{memory_at}
-use Rattle.dwc_carry.proofs.OwnModules.{carried-refused, module-both, none-refused, own-counted, own-refused, own-told}
+use Rattle.dwc_carry.specs.SyntheticUnits.{memory_at}
+use Rattle.dwc_carry.proofs.SyntheticModules.{carried-refused, module-both, none-refused, synthetic-counted, synthetic-refused, synthetic-told}
 use Rattle.dwc_carry.proofs.ModuleLoopLaws.{ModulesSoFar, modules-begin, modules-one, modules-done, modules-refused}
 use Rattle.dwc_carry.proofs.carry_modules.carry_modules.Goals as goal
 
@@ -54,8 +54,8 @@ carry_module-requires-clause-frames g c =
     (c.index-translations-i.is ∙ ap (λ ts. get_or ts c.loop-i.i t) c.translations-translations.ensures.translations) c.index-transforms-i.is (c.compiled_module-compiled.ensures.told registers) c.compiled_module-compiled.ensures.frames in
     next.frames
 
-pub returns-in_err-own : goal.returns-in_err-own
-returns-in_err-own g c =
+pub returns-in_err-synthetic : goal.returns-in_err-synthetic
+returns-in_err-synthetic g c =
     let compilation = c.args.compilation.now in
     let less : c.loop-i.i < length compilation.translations = rw c.translations-translations.ensures.translations at c.loop-i-test.true in
     let registers = (goal.TargetIsa-dyn g c.args.isa.now).dwarf_registers c.args.isa.now.1 in
@@ -75,7 +75,7 @@ returns-in_err-own g c =
     let texts = c.loop-i.dwarf.strings in
     let here : ModulesSoFar size big ms old before new texts c.loop-i.vmctx_ptrs.items c.loop-i.translated (m ∷ rest) = subst (λ xs. ModulesSoFar size big ms old before new texts c.loop-i.vmctx_ptrs.items c.loop-i.translated xs) next.left c.loop-i.invariant in
     let p = err_from_is_err_and c.from_residual.result c.from_residual.ensures.1 in
-    rw (p.1, p.2) (modules-refused size big ms old before new texts c.loop-i.vmctx_ptrs.items c.loop-i.translated m rest c.in_err-own.field-0.0 here (own-refused big m c.in_err-own.field-0.0 (subst (λ x. RefusesReading (first_of (own_refusals x)) c.in_err-own.field-0.0) (sym c.compiled_module-compiled.ensures.memory) c.in_err-own.ensures.added)))
+    rw (p.1, p.2) (modules-refused size big ms old before new texts c.loop-i.vmctx_ptrs.items c.loop-i.translated m rest c.in_err-synthetic.field-0.0 here (synthetic-refused big m c.in_err-synthetic.field-0.0 (subst (λ x. RefusesReading (first_of (synthetic_refusals x)) c.in_err-synthetic.field-0.0) (sym c.compiled_module-compiled.ensures.memory) c.in_err-synthetic.ensures.added)))
 
 pub returns-in_err-carry_module : goal.returns-in_err-carry_module
 returns-in_err-carry_module g c =
@@ -99,8 +99,8 @@ returns-in_err-carry_module g c =
     let here : ModulesSoFar size big ms old before new texts c.loop-i.vmctx_ptrs.items c.loop-i.translated (m ∷ rest) = subst (λ xs. ModulesSoFar size big ms old before new texts c.loop-i.vmctx_ptrs.items c.loop-i.translated xs) next.left c.loop-i.invariant in
     let p = err_from_is_err_and c.from_residual-in_err-carry_module.result c.from_residual-in_err-carry_module.ensures.1 in
     let middle : Dwarf = record { units = c.new.new.out_units; strings = c.new.new.out_strings } in
-    let own = own-told size compilation.set_memory m.told.names.set_memory (memory_at compilation c.loop-i.i) m.told.memory c.loop-i.dwarf middle c.in_ok-own.own (sym c.compiled_module-compiled.ensures.set_memory) (sym c.compiled_module-compiled.ensures.memory) c.in_ok-own.ensures.added in
-    rw (p.1, p.2) (modules-refused size big ms old before new texts c.loop-i.vmctx_ptrs.items c.loop-i.translated m rest c.in_err-carry_module.field-0.0 here (carried-refused big m own.0 c.in_err-carry_module.field-0.0 (c.in_err-carry_module.ensures.added (length new) (own-counted big m size c.loop-i.dwarf middle c.in_ok-own.own own.1))))
+    let synthetic = synthetic-told size compilation.set_memory m.told.names.set_memory (memory_at compilation c.loop-i.i) m.told.memory c.loop-i.dwarf middle c.in_ok-synthetic.synthetic (sym c.compiled_module-compiled.ensures.set_memory) (sym c.compiled_module-compiled.ensures.memory) c.in_ok-synthetic.ensures.added in
+    rw (p.1, p.2) (modules-refused size big ms old before new texts c.loop-i.vmctx_ptrs.items c.loop-i.translated m rest c.in_err-carry_module.field-0.0 here (carried-refused big m synthetic.0 c.in_err-carry_module.field-0.0 (c.in_err-carry_module.ensures.added (length new) (synthetic-counted big m size c.loop-i.dwarf middle c.in_ok-synthetic.synthetic synthetic.1))))
 
 pub loop-i-preserved : goal.loop-i-preserved
 loop-i-preserved g c =
@@ -123,12 +123,12 @@ loop-i-preserved g c =
     let texts = c.loop-i.dwarf.strings in
     let here : ModulesSoFar size big ms old before new texts c.loop-i.vmctx_ptrs.items c.loop-i.translated (m ∷ rest) = subst (λ xs. ModulesSoFar size big ms old before new texts c.loop-i.vmctx_ptrs.items c.loop-i.translated xs) next.left c.loop-i.invariant in
     let middle : Dwarf = record { units = c.new.new.out_units; strings = c.new.new.out_strings } in
-    let own = own-told size compilation.set_memory m.told.names.set_memory (memory_at compilation c.loop-i.i) m.told.memory c.loop-i.dwarf middle c.in_ok-own.own (sym c.compiled_module-compiled.ensures.set_memory) (sym c.compiled_module-compiled.ensures.memory) c.in_ok-own.ensures.added in
-    let carried = c.in_ok-carry_module.ensures.added (length new) (own-counted big m size c.loop-i.dwarf middle c.in_ok-own.own own.1) in
-    let refers = c.vmctx_ptr_die_ref.ensures ∙ (own.1.refers).context_pointer in
+    let synthetic = synthetic-told size compilation.set_memory m.told.names.set_memory (memory_at compilation c.loop-i.i) m.told.memory c.loop-i.dwarf middle c.in_ok-synthetic.synthetic (sym c.compiled_module-compiled.ensures.set_memory) (sym c.compiled_module-compiled.ensures.memory) c.in_ok-synthetic.ensures.added in
+    let carried = c.in_ok-carry_module.ensures.added (length new) (synthetic-counted big m size c.loop-i.dwarf middle c.in_ok-synthetic.synthetic synthetic.1) in
+    let refers = c.vmctx_ptr_die_ref.ensures ∙ (synthetic.1.refers).context_pointer in
     subst (λ rs. ModulesSoFar size big ms old before c.carry_module.new.dwarf.units.units.items c.carry_module.new.dwarf.strings rs c.carry_module.new.translated rest) (sym c.in_ok-push.ensures.items)
     (modules-one size big ms old before new c.carry_module.new.dwarf.units.units.items texts c.carry_module.new.dwarf.strings c.loop-i.vmctx_ptrs.items c.vmctx_ptr_die_ref.result c.loop-i.translated c.carry_module.new.translated m rest here
-    (none-refused big m own.0 carried.0, module-both big m size c.loop-i.dwarf middle c.carry_module.new.dwarf c.in_ok-own.own own.1 carried.1) refers c.in_ok-carry_module.ensures.noted)
+    (none-refused big m synthetic.0 carried.0, module-both big m size c.loop-i.dwarf middle c.carry_module.new.dwarf c.in_ok-synthetic.synthetic synthetic.1 carried.1) refers c.in_ok-carry_module.ensures.noted)
 
 pub returns : goal.returns
 returns g c =

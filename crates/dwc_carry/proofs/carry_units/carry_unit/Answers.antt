@@ -1,7 +1,7 @@
 use Rattle.std.proofs.Common.{◌∙◌, ap, refl, subst}
 use Rattle.std.proofs.lemmas.Result.{err_from_is_err_and}
-use Rattle.dwc_write.specs.declared.units.UnitId.{UnitId}
-use Rattle.dwc_write.specs.GivenUnits.{GivenUnit}
+use Rattle.dwc_unit.specs.declared.units.UnitId.{UnitId}
+use Rattle.dwc_unit.specs.GivenUnits.{GivenUnit}
 use Rattle.dwc_clone.specs.BegunNumbers.{NotesFunctions}
 use Rattle.dwc_carry.proofs.BegunLaws.{unit-begun}
 use Rattle.dwc_carry.proofs.UnitMade.{begun-refused}

@@ -2,24 +2,24 @@ use Rattle.std.proofs.Common.{◌≡◌, ℕ, suc, ◌<◌, ◌≤◌, ◌+◌, 
 use Rattle.std.proofs.lemmas.List.{drop_all}
 use Rattle.std.proofs.lemmas.Result.{err_from_is_err_and}
 use Rattle.dwc_rules.specs.Carried.{Module}
-use Rattle.dwc_carried.specs.ListedFunctions.{begun_in_module}
+use Rattle.dwc_carried.specs.SimulatedFunctions.{begun_in_module}
 use Rattle.dwc_kept.proofs.KeptModuleLaws.{read-unit}
-use Rattle.dwc_clone.specs.CompiledModules.{told_by}
-use Rattle.dwc_clone.specs.KnownTexts.{KnowsTexts}
+use Rattle.dwc_source.specs.CompiledModules.{told_by}
+use Rattle.dwc_source.specs.KnownTexts.{KnowsTexts}
 use Rattle.dwc_carry.specs.LastLines.{IsLast}
 use Rattle.dwc_carry.specs.CarriedUnits.{IsOfModule}
 use Rattle.dwc_kept.specs.ReadUnits.{unit_read}
 use Rattle.dwc_carry.specs.ModulePlaces.{emitted, numbered_lists}
 use Rattle.dwc_clone.proofs.BegunNumberLaws.{AreNotedSoFar, noted_beside, noted-begin, noted-done}
 use Rattle.dwc_carry.proofs.BegunLaws.{begun_left, begun-all, begun-none, begun-some}
-use Rattle.dwc_carry.proofs.UnitLoopLaws.{added-at, own-refers, UnitsSoFar, units-begin, units-done, units-none, units-some, units-refused, refused-all, unit-there, units-left, unit-next, of-itself, places-behind}
+use Rattle.dwc_carry.proofs.UnitLoopLaws.{added-at, synthetic-refers, UnitsSoFar, units-begin, units-done, units-none, units-some, units-refused, refused-all, unit-there, units-left, unit-next, of-itself, places-behind}
 use Rattle.dwc_carry.proofs.UnitSources.{entries-of-read}
 use Rattle.dwc_carry.proofs.carry_units.carry_units.Goals.{then-kept-gt0+in_ok-last, else-kept-gt0}
 use Rattle.dwc_carry.proofs.carry_units.carry_units.Goals as goal
 
 pub loop-i-init : goal.loop-i-init
 loop-i-init g c = record {
-  added = λ d own at of. units-begin d c.args.read_module.now c.args.form.encoding.address_size c.args.form.big_endian own c.args.dwarf.now at (of-itself d c.args.transform.now (told_by ((goal.TargetIsa-dyn g c.args.isa.now).dwarf_registers c.args.isa.now.1) c.args.compiled.now) c.args.read_module.now of);
+  added = λ d synthetic at of. units-begin d c.args.read_module.now c.args.form.encoding.address_size c.args.form.big_endian synthetic c.args.dwarf.now at (of-itself d c.args.transform.now (told_by ((goal.TargetIsa-dyn g c.args.isa.now).dwarf_registers c.args.isa.now.1) c.args.compiled.now) c.args.read_module.now of);
   noted = λ d of.
       subst (λ fs. AreNotedSoFar fs (noted_beside c.args.translated.now (begun_in_module d)) c.args.translated.now) (begun-all d c.args.read_module.now c.args.transform.now (told_by ((goal.TargetIsa-dyn g c.args.isa.now).dwarf_registers c.args.isa.now.1) c.args.compiled.now) of)
       (noted-begin (begun_in_module d) c.args.translated.now);
@@ -73,7 +73,7 @@ returns-in_err-last-clause-added g c = λ d first at of.
     let p = err_from_is_err_and c.from_residual.result c.from_residual.ensures.1 in
     rw (p.1, p.2)
     (refused-all d m size big first m.units.items old new refl (of-itself d fs told m of) c.in_err-last.field-0.0
-    (units-refused d m size big first m.units.items old new r (drop (c.loop-i.i + 1) m.units.items) here some c.in_err-last.field-0.0 (c.in_err-last.ensures.added d m first one (own-refers (told_by ((goal.TargetIsa-dyn g c.args.isa.now).dwarf_registers c.args.isa.now.1) c.args.compiled.now) d fs m first of (c.requires.own first at)))))
+    (units-refused d m size big first m.units.items old new r (drop (c.loop-i.i + 1) m.units.items) here some c.in_err-last.field-0.0 (c.in_err-last.ensures.added d m first one (synthetic-refers (told_by ((goal.TargetIsa-dyn g c.args.isa.now).dwarf_registers c.args.isa.now.1) c.args.compiled.now) d fs m first of (c.requires.synthetic first at)))))
 
 pub loop-i-preserved : goal.loop-i-preserved
 loop-i-preserved g c =
@@ -97,10 +97,10 @@ loop-i-preserved g c =
       | then-kept-gt0+in_ok-last w ↦
           let some = subst (λ xs. 0 < length xs) c.carried_entries-kept.ensures w.if-kept-gt0.true in
           record {
-            added = λ d first at of. let given = w.in_ok-last.ensures.added d m first (one d first at of w.if-kept-gt0.true) (own-refers told d fs m first of (c.requires.own first at)) in rw w.dwarf-is (units-some d m size big first m.units.items old new r rest (here d first at of) some w.carry_unit.new.dwarf given.0 (added-at size big d first c.args.places.now (numbered_lists (suc first) (emitted m.kept m.units.items)) (unit_read d.sections r.unit.header) new w.carry_unit.new.dwarf (places-behind m (length old.units.units.items) first c.args.places.now at c.requires.places) given.1.0));
+            added = λ d first at of. let given = w.in_ok-last.ensures.added d m first (one d first at of w.if-kept-gt0.true) (synthetic-refers told d fs m first of (c.requires.synthetic first at)) in rw w.dwarf-is (units-some d m size big first m.units.items old new r rest (here d first at of) some w.carry_unit.new.dwarf given.0 (added-at size big d first c.args.places.now (numbered_lists (suc first) (emitted m.kept m.units.items)) (unit_read d.sections r.unit.header) new w.carry_unit.new.dwarf (places-behind m (length old.units.units.items) first c.args.places.now at c.requires.places) given.1.0));
             noted = λ d of. let at : length old.units.units.items ≡ suc before = omega (arith, c.requires.behind) in
                 rw w.translated-is (begun-some d m r rest (all_noted d) c.loop-i.translated w.carry_unit.new.translated some (w.in_ok-last.ensures.noted d m before (one d before at of w.if-kept-gt0.true)) (noted_here d of));
-            known = λ d of. let at : length old.units.units.items ≡ suc before = omega (arith, c.requires.behind) in let given = w.in_ok-last.ensures.added d m before (one d before at of w.if-kept-gt0.true) (own-refers told d fs m before of (c.requires.own before at)) in
+            known = λ d of. let at : length old.units.units.items ≡ suc before = omega (arith, c.requires.behind) in let given = w.in_ok-last.ensures.added d m before (one d before at of w.if-kept-gt0.true) (synthetic-refers told d fs m before of (c.requires.synthetic before at)) in
                 rw (w.dwarf-is, w.last-is) (subst (λ gs. IsLast gs size d.sections w.carry_unit.new.dwarf.units.units.items w.in_ok-last.last) of.functions given.1.1);
             texts = λ d of. rw (w.dwarf-is, w.known-is) (subst (λ s. KnowsTexts s w.carry_unit.new.dwarf.strings w.carry_unit.new.known) (read-unit d m of.is r (unit-there fs told m c.loop-i.i r less c.index-read.ensures)).sections w.in_ok-last.ensures.texts);
           }

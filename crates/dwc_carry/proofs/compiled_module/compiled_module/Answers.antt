@@ -1,10 +1,10 @@
 use Rattle.std.proofs.Common.{arith, length, sym, ap, ap₂, ◌∙◌, subst, Some, map}
 use Rattle.std.proofs.lemmas.List.{length-map}
 use Rattle.dwc_native.specs.Functions.{functions_of}
-use Rattle.dwc_clif.specs.AddressMaps.{address_map_view}
+use Rattle.dwc_compiled.specs.AddressMaps.{address_map_view}
 use Rattle.dwc_addr.specs.Numbers.{first_number}
 use Rattle.dwc_addr.specs.Compilations.{functions_at}
-use Rattle.dwc_clone.specs.CompiledModules.{told_module, AreNumberedFrom}
+use Rattle.dwc_source.specs.CompiledModules.{told_module, AreNumberedFrom}
 use Rattle.dwc_carry.specs.Inputs.{names_of}
 use Rattle.dwc_carry.proofs.CompiledLaws.{frames-numbered, told-at}
 use Rattle.dwc_carry.proofs.compiled_module.compiled_module.Goals as goal

@@ -1,9 +1,9 @@
 use Rattle.std.proofs.Common.{◌∙◌, ap, sym, subst, option_map}
 use Rattle.std.proofs.lemmas.Result.{err_from_is_err_and}
-use Rattle.dwc_rules.specs.Targets.{entry_listed}
+use Rattle.dwc_rules.specs.Targets.{entry_in_listing}
 use Rattle.dwc_read.specs.Faults.{GivesOrFault, fault_seen}
 use Rattle.dwc_read.specs.EntriesSeen.{entry_view}
-use Rattle.dwc_carry.proofs.ResolvedLaws.{begun-listed, table-refuses}
+use Rattle.dwc_carry.proofs.ResolvedLaws.{begun-in_listing, table-refuses}
 use Rattle.dwc_carry.proofs.die_ref.entry_begun_at.Goals as goal
 
 pub returns-in_err-entries : goal.returns-in_err-entries
@@ -16,4 +16,4 @@ pub returns : goal.returns
 returns c =
     let u = c.args.unit.now in
     let es = c.in_ok-entries.field-0 in
-    subst (λ r. GivesOrFault (option_map entry_view) r c.entry_listed.result) (ap (entry_listed c.args.place) c.in_ok-entries.ensures.start ∙ sym (begun-listed u.sections u.header c.args.place es.table c.in_ok-entries.ensures.table)) c.entry_listed.ensures
+    subst (λ r. GivesOrFault (option_map entry_view) r c.entry_in_listing.result) (ap (entry_in_listing c.args.place) c.in_ok-entries.ensures.start ∙ sym (begun-in_listing u.sections u.header c.args.place es.table c.in_ok-entries.ensures.table)) c.entry_in_listing.ensures

@@ -1,5 +1,5 @@
 use Rattle.std.proofs.Common.{◌<◌, length}
-use Rattle.dwc_write.specs.Frames.{table_view}
+use Rattle.dwc_frames.specs.Frames.{table_view}
 use Rattle.dwc_addr.proofs.CompilationLaws.{module-inside}
 use Rattle.dwc_carry.proofs.FramesAdded.{module-added}
 use Rattle.dwc_carry.proofs.frames.add_modules.Goals as goal

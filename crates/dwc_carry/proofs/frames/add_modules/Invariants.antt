@@ -1,5 +1,5 @@
 use Rattle.std.proofs.Common.{◌≡◌, ◌++◌, drop}
-use Rattle.dwc_write.specs.Frames.{table_view}
+use Rattle.dwc_frames.specs.Frames.{table_view}
 use Rattle.dwc_addr.specs.Numbers.{first_number}
 use Rattle.dwc_carry.specs.CompiledFrames.{all_frames}
 use Rattle.dwc_carry.proofs.frames.add_modules.Given as goal

@@ -1,6 +1,6 @@
 use Rattle.std.proofs.Common.{rules, ◌≡◌, ◌+◌, [], ◌∷◌, ◌++◌, subst, sym, refl}
 use Rattle.std.specs.Prelude.{slice_index_or}
-use Rattle.dwc_base.specs.declared.wasm.ValType.TheVariants.{I32}
+use Rattle.dwc_base.specs.declared.translation.ValType.TheVariants.{I32}
 use Rattle.dwc_carry.specs.declared.local_types.LocalGroup.{LocalGroup}
 use Rattle.dwc_carry.proofs.GroupLaws.{Ended, ended-more}
 use Rattle.dwc_carry.proofs.local_types.ended_groups.Goals as goal

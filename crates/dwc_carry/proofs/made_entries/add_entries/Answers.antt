@@ -1,6 +1,6 @@
 use Rattle.std.proofs.Common.{◌+◌, ◌∙◌, [], ap, arith, drop, length, slice_index_or, subst, sym}
-use Rattle.dwc_write.specs.GivenUnits.{IsAdded}
-use Rattle.dwc_write.specs.declared.units.UnitEntryId.{UnitEntryId}
+use Rattle.dwc_unit.specs.GivenUnits.{IsAdded}
+use Rattle.dwc_unit.specs.declared.units.UnitEntryId.{UnitEntryId}
 use Rattle.dwc_carry.specs.declared.made_entries.MadeEntry.{MadeEntry}
 use Rattle.dwc_carry.specs.MadeEntries.{AreBehind, IsDense, addition_of}
 use Rattle.dwc_carry.proofs.MadeAdditions.{child-known, entry-added, entry-dense, next-added, next-behind, next-counted, next-entry, parent-known}

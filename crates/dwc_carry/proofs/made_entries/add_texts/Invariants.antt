@@ -1,5 +1,5 @@
 use Rattle.std.proofs.Common.{◌≡◌, ◌++◌, drop, map}
-use Rattle.dwc_clone.specs.MadeValues.{Grows}
+use Rattle.dwc_source.specs.MadeValues.{Grows}
 use Rattle.dwc_carry.specs.MadeEntries.{number_of, numbers_added, texts_added}
 use Rattle.dwc_carry.proofs.made_entries.add_texts.Given as goal
 

@@ -1,5 +1,5 @@
 use Rattle.std.proofs.Common.{◌≡◌, drop}
-use Rattle.dwc_write.specs.GivenUnits.{IsAdded}
+use Rattle.dwc_unit.specs.GivenUnits.{IsAdded}
 use Rattle.dwc_carry.specs.MadeEntries.{with_attributes}
 use Rattle.dwc_carry.proofs.made_entries.set_attributes.Given as goal
 

@@ -6,11 +6,11 @@ use Rattle.dwc_native.specs.Addends.{HaveAddends}
 use Rattle.dwc_base.specs.TranslationNames.{HasSortedNames}
 use Rattle.dwc_image.specs.CarriedLines.{AreKept}
 use Rattle.dwc_clone.specs.BegunNumbers.{is_noted}
-use Rattle.dwc_clone.specs.CompiledModules.{told_by}
+use Rattle.dwc_source.specs.CompiledModules.{told_by}
 use Rattle.dwc_carry.specs.CarriedModules.{transformed_module}
 use Rattle.dwc_carry.specs.Inputs.{modules_of, names_of, told_from}
 use Rattle.dwc_carry.proofs.CompiledLaws.{module-next, modules-length, transforms-inside}
-use Rattle.dwc_carry.proofs.ListedLaws.{few-functions, first-lines}
+use Rattle.dwc_carry.proofs.SimulatedCodeLaws.{few-functions, first-lines}
 use Rattle.dwc_carry.proofs.MadeLaws.{grows-twice}
 use Rattle.dwc_carry.proofs.SimulatedModuleLaws.{added-begin, added-done, added-more, added-refused}
 use Rattle.dwc_carry.proofs.simulated_modules.add_modules.Goals as goal

@@ -1,4 +1,4 @@
-use Rattle.dwc_clone.proofs.TextLaws.{text-added}
+use Rattle.dwc_source.proofs.TextLaws.{text-added}
 use Rattle.dwc_carry.proofs.simulated_texts.add_text.Goals as goal
 
 pub returns-clause-grows : goal.returns-clause-grows

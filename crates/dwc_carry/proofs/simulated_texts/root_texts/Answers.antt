@@ -1,5 +1,5 @@
 use Rattle.std.proofs.Common.{subst, sym}
-use Rattle.dwc_write.specs.TextTables.{IsText}
+use Rattle.dwc_unit.specs.TextTables.{IsText}
 use Rattle.dwc_carry.proofs.SimulatedTexts.{directory-plain}
 use Rattle.dwc_carry.proofs.simulated_texts.root_texts.Goals as goal
 

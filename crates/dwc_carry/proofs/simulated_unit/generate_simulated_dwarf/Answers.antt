@@ -7,12 +7,12 @@ use Rattle.dwc_base.specs.Listing.{first_of}
 use Rattle.dwc_carried.specs.SimulatedUnit.{simulated_refusals}
 use Rattle.dwc_carried.specs.UnitPaths.{is_file_name, path_name}
 use Rattle.dwc_addr.specs.Compilations.{CompilationValue}
-use Rattle.dwc_write.specs.TextTables.{IsText}
+use Rattle.dwc_unit.specs.TextTables.{IsText}
 use Rattle.dwc_clone.specs.BegunNumbers.{is_noted}
 use Rattle.dwc_carry.specs.Inputs.{bad_map, functions_from, modules_of}
-use Rattle.dwc_carry.specs.LastUnits.{GivesUnit}
+use Rattle.dwc_carry.specs.SimulatedUnits.{GivesUnit}
 use Rattle.dwc_carry.specs.Refusals.{RefusesReading}
-use Rattle.dwc_carry.proofs.LastUnitLaws.{last-added, none-added, not-none, path-refused, path-text, same-modules, unit-refused}
+use Rattle.dwc_carry.proofs.SimulatedUnitMade.{last-added, none-added, not-none, path-refused, path-text, same-modules, unit-refused}
 use Rattle.dwc_carry.proofs.simulated_unit.generate_simulated_dwarf.Goals as goal
 
 pub returns-then-is_empty-clause-added : goal.returns-then-is_empty-clause-added

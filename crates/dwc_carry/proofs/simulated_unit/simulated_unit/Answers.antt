@@ -1,19 +1,19 @@
 use Rattle.std.proofs.Common.{ℕ, ap, map, sym, subst, ◌∙◌, All}
 use Rattle.std.proofs.lemmas.Result.{err_from_is_err_and}
 use Rattle.dwc_carried.specs.SimulatedUnit.{simulated_unit}
-use Rattle.dwc_image.specs.SimulatedSequences.{listed_view}
+use Rattle.dwc_image.specs.SimulatedSequences.{simulated_view}
 use Rattle.dwc_clone.specs.BegunNumbers.{is_noted}
 use Rattle.dwc_carry.specs.Inputs.{modules_of}
-use Rattle.dwc_carry.specs.LastUnits.{IsTyped}
-use Rattle.dwc_carry.specs.ListedFiles.{CanWrite, left_in}
-use Rattle.dwc_carry.specs.OwnUnits.{reference_meant}
-use Rattle.dwc_carry.proofs.LastUnitLaws.{last-made, modules-left}
-use Rattle.dwc_carry.proofs.ListedLaws.{all-left}
+use Rattle.dwc_carry.specs.SimulatedUnits.{IsTyped}
+use Rattle.dwc_carry.specs.SimulatedCode.{CanWrite, left_in}
+use Rattle.dwc_carry.specs.SyntheticUnits.{reference_meant}
+use Rattle.dwc_carry.proofs.SimulatedUnitMade.{simulated_unit-made, modules-left}
+use Rattle.dwc_carry.proofs.SimulatedCodeLaws.{all-left}
 use Rattle.dwc_carry.proofs.MadeLaws.{grows-same, grows-twice}
 use Rattle.dwc_carry.proofs.simulated_unit.simulated_unit.Goals as goal
 
 pub typed_unit-requires-clause-functions : goal.typed_unit-requires-clause-functions
-typed_unit-requires-clause-functions g c = subst (λ xs. All CanWrite (map listed_view xs)) (sym c.deref.ensures.value) c.in_ok-functions.ensures.fit
+typed_unit-requires-clause-functions g c = subst (λ xs. All CanWrite (map simulated_view xs)) (sym c.deref.ensures.value) c.in_ok-functions.ensures.fit
 
 pub add_modules-requires-clause-dense : goal.add_modules-requires-clause-dense
 add_modules-requires-clause-dense g c = c.in_ok-unit.ensures.typed.dense
@@ -32,11 +32,11 @@ returns-in_err-add_modules-clause-unit g c =
     let path = c.args.path.now in
     let middle = c.typed_unit.new.strings in
     let u = c.in_ok-unit.unit in
-    let fs = map listed_view c.in_ok-functions.functions.items in
-    let listed = c.in_ok-functions.ensures.listed ∙ ap (left_in translated compilation.translations) c.requires.transforms ∙ all-left registers compilation translated c.in_ok-functions.ensures.counted in
-    let typed = subst (λ xs. IsTyped size path (map listed_view xs) middle u) c.deref.ensures.value c.in_ok-unit.ensures.typed in
+    let fs = map simulated_view c.in_ok-functions.functions.items in
+    let simulated = c.in_ok-functions.ensures.simulated ∙ ap (left_in translated compilation.translations) c.requires.transforms ∙ all-left registers compilation translated c.in_ok-functions.ensures.counted in
+    let typed = subst (λ xs. IsTyped size path (map simulated_view xs) middle u) c.deref.ensures.value c.in_ok-unit.ensures.typed in
     let p = err_from_is_err_and c.from_residual-in_err-add_modules.result c.from_residual-in_err-add_modules.ensures.1 in
-    rw (p.1, p.2) (c.in_err-add_modules.ensures.entries 0 (simulated_unit translated path 0 pointers ms) (modules-left translated size path 0 pointers ms fs middle u listed typed))
+    rw (p.1, p.2) (c.in_err-add_modules.ensures.entries 0 (simulated_unit translated path 0 pointers ms) (modules-left translated size path 0 pointers ms fs middle u simulated typed))
 
 pub returns-clause-unit : goal.returns-clause-unit
 returns-clause-unit g c =
@@ -49,12 +49,12 @@ returns-clause-unit g c =
     let path = c.args.path.now in
     let middle = c.typed_unit.new.strings in
     let u = c.in_ok-unit.unit in
-    let fs = map listed_view c.in_ok-functions.functions.items in
-    let listed = c.in_ok-functions.ensures.listed ∙ ap (left_in translated compilation.translations) c.requires.transforms ∙ all-left registers compilation translated c.in_ok-functions.ensures.counted in
-    let typed = subst (λ xs. IsTyped size path (map listed_view xs) middle u) c.deref.ensures.value c.in_ok-unit.ensures.typed in
-    let entries = λ (number : ℕ). c.in_ok-add_modules.ensures.entries number (simulated_unit translated path number pointers ms) (modules-left translated size path number pointers ms fs middle u listed typed) in (
+    let fs = map simulated_view c.in_ok-functions.functions.items in
+    let simulated = c.in_ok-functions.ensures.simulated ∙ ap (left_in translated compilation.translations) c.requires.transforms ∙ all-left registers compilation translated c.in_ok-functions.ensures.counted in
+    let typed = subst (λ xs. IsTyped size path (map simulated_view xs) middle u) c.deref.ensures.value c.in_ok-unit.ensures.typed in
+    let entries = λ (number : ℕ). c.in_ok-add_modules.ensures.entries number (simulated_unit translated path number pointers ms) (modules-left translated size path number pointers ms fs middle u simulated typed) in (
       (entries 0).0,
-      last-made translated size path ms c.args.vmctx_ptrs.now fs c.args.strings.now middle c.add_modules.new.strings u c.add_modules.new.unit listed c.in_ok-functions.ensures.fit c.typed_unit.ensures.grows c.add_modules.ensures.grows typed c.in_ok-add_modules.ensures.begins (λ number. (entries number).1),
+      simulated_unit-made translated size path ms c.args.vmctx_ptrs.now fs c.args.strings.now middle c.add_modules.new.strings u c.add_modules.new.unit simulated c.in_ok-functions.ensures.fit c.typed_unit.ensures.grows c.add_modules.ensures.grows typed c.in_ok-add_modules.ensures.begins (λ number. (entries number).1),
     )
 
 pub returns-in_err-add_modules-clause-grows : goal.returns-in_err-add_modules-clause-grows

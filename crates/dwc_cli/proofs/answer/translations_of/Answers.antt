@@ -1,6 +1,6 @@
 use Rattle.std.proofs.Common.{◌+◌, map, drop, Ok, Err, subst}
 use Rattle.std.proofs.lemmas.Result.{err_from_is_err_and}
-use Rattle.dwc_base.specs.Translations.{TranslatesFile}
+use Rattle.dwc_wasm.specs.FileTranslations.{TranslatesFile}
 use Rattle.dwc_cli.specs.Failures.{failure_status}
 use Rattle.dwc_cli.proofs.WalkedModules.{Walked, Walked-more, Walked-broken, files-from}
 use Rattle.dwc_cli.proofs.answer.translations_of.Goals as goal

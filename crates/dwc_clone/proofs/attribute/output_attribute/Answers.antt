@@ -7,11 +7,11 @@ use Rattle.dwc_rules.specs.RangeRefusals.{begins_by_low_pc}
 use Rattle.dwc_rules.specs.Clones.{table_becomes}
 use Rattle.dwc_read.specs.EntriesSeen.{entry_view}
 use Rattle.dwc_read.specs.ValuesSeen.{attribute_view}
-use Rattle.dwc_write.specs.GivenUnits.{FitsValue}
-use Rattle.dwc_clone.specs.ClonedUnits.{clone_rules}
-use Rattle.dwc_clone.specs.Errors.{refusal_told}
-use Rattle.dwc_clone.specs.MadeValues.{GivesMade, RefusesSo, Says, SaysMore}
-use Rattle.dwc_clone.proofs.EntryValues.{before-many}
+use Rattle.dwc_unit.specs.GivenUnits.{FitsValue}
+use Rattle.dwc_extents.specs.CodeSources.{clone_rules}
+use Rattle.dwc_source.specs.Errors.{refusal_told}
+use Rattle.dwc_source.specs.MadeValues.{GivesMade, RefusesSo, Says, SaysMore}
+use Rattle.dwc_extents.proofs.BoundLaws.{before-many}
 use Rattle.dwc_clone.proofs.ValueLaws.{attribute-bound, attribute-dropped, attribute-table, attribute-value, made-none, made-same}
 use Rattle.dwc_clone.proofs.attribute.output_attribute.Goals as goal
 

@@ -1,8 +1,8 @@
 use Rattle.std.proofs.Common.{sym, ap, subst, ◌∙◌}
 use Rattle.dwc_base.specs.declared.constants.TheConstants.{DW_AT_high_pc, DW_FORM_udata}
 use Rattle.dwc_rules.specs.RangeAttributes.{bounds}
-use Rattle.dwc_write.specs.declared.attributes.AttributeValue.TheVariants.{Constant}
-use Rattle.dwc_write.specs.GivenUnits.{with_value}
+use Rattle.dwc_unit.specs.declared.attributes.AttributeValue.TheVariants.{Constant}
+use Rattle.dwc_unit.specs.GivenUnits.{with_value}
 use Rattle.dwc_clone.specs.ClonedEntries.{IsGiven}
 use Rattle.dwc_clone.proofs.EntryValues.{on-ok}
 use Rattle.dwc_clone.proofs.CodeLaws.{bounds-given}

@@ -2,10 +2,10 @@ use Rattle.std.proofs.Common.{sym, subst, length}
 use Rattle.std.specs.Prelude.{◌<◌}
 use Rattle.std.proofs.lemmas.List.Elements.{All-nil}
 use Rattle.dwc_base.specs.declared.constants.TheConstants.{DW_AT_low_pc}
-use Rattle.dwc_write.specs.declared.attributes.AttributeValue.TheVariants.{Address}
+use Rattle.dwc_unit.specs.declared.attributes.AttributeValue.TheVariants.{Address}
 use Rattle.dwc_clone.specs.ClonedEntries.{IsGiven}
-use Rattle.dwc_clone.specs.NativeExtents.{FitsExtent, said_by}
-use Rattle.dwc_clone.specs.declared.extent.NativeExtent.TheVariants.{Position}
+use Rattle.dwc_extents.specs.NativeExtents.{FitsExtent, said_by}
+use Rattle.dwc_extents.specs.declared.extent.NativeExtent.TheVariants.{Position}
 use Rattle.dwc_clone.proofs.EntryValues.{given-value, grows-not, on-ok}
 use Rattle.dwc_clone.proofs.code.set_extent.Goals as goal
 

@@ -5,10 +5,10 @@ use Rattle.dwc_base.specs.declared.constants.TheConstants.{DW_AT_ranges, DW_TAG_
 use Rattle.dwc_base.specs.declared.records.Address.{Address}
 use Rattle.dwc_rules.specs.RangeAttributes.{bounds}
 use Rattle.dwc_dwarf.specs.Trees.{ranges}
-use Rattle.dwc_write.specs.declared.attributes.AttributeValue.TheVariants.{RangeListRef}
-use Rattle.dwc_write.specs.declared.lists.RangeList.{RangeList}
-use Rattle.dwc_write.specs.RangeLists.{FitsRange, interval_of}
-use Rattle.dwc_write.specs.Writers.{FitsField}
+use Rattle.dwc_unit.specs.declared.attributes.AttributeValue.TheVariants.{RangeListRef}
+use Rattle.dwc_unit.specs.declared.lists.RangeList.{RangeList}
+use Rattle.dwc_unit.specs.RangeLists.{FitsRange, interval_of}
+use Rattle.dwc_section.specs.Writers.{FitsField}
 use Rattle.dwc_clone.specs.ClonedEntries.{IsGiven}
 use Rattle.dwc_clone.proofs.EntryValues.{given-value, grows-not, on-ok}
 use Rattle.dwc_clone.proofs.CodeLaws.{bounds-said, list-said}

@@ -2,9 +2,9 @@ use Rattle.std.proofs.Common.{refl, ap, map}
 use Rattle.std.specs.Prelude.{option_map}
 use Rattle.dwc_base.specs.declared.constants.TheConstants.{DW_AT_location}
 use Rattle.dwc_expr.specs.Builds.{built_view, surroundings}
-use Rattle.dwc_write.specs.LocationLists.{LocationList}
-use Rattle.dwc_write.specs.Lists.{location_of}
-use Rattle.dwc_clone.proofs.LocationsFit.{fits-built-over}
+use Rattle.dwc_unit.specs.LocationLists.{LocationList}
+use Rattle.dwc_unit.specs.Lists.{location_of}
+use Rattle.dwc_extents.proofs.LocationsFit.{fits-built-over}
 use Rattle.dwc_clone.proofs.context.context_over.Goals as goal
 
 pub returns-clause-fits : goal.returns-clause-fits

@@ -6,11 +6,12 @@ use Rattle.dwc_rules.specs.EntryRules.{of_build}
 use Rattle.dwc_native.specs.Parts.{context_label}
 use Rattle.dwc_expr.specs.Frames.{frame_view}
 use Rattle.dwc_read.specs.EntriesSeen.{entry_view}
-use Rattle.dwc_clone.specs.ClonedEntries.{placed_entry}
-use Rattle.dwc_clone.specs.ClonedUnits.{TellsFirst, source_with}
+use Rattle.dwc_source.specs.Sources.{placed_entry}
+use Rattle.dwc_clone.specs.ClonedUnits.{TellsFirst}
+use Rattle.dwc_extents.specs.CodeSources.{source_with}
 use Rattle.dwc_clone.specs.ContextPlaces.{HasVariable}
-use Rattle.dwc_clone.specs.Errors.{refusal_told}
-use Rattle.dwc_clone.specs.InForceSeen.{in_force_view}
+use Rattle.dwc_source.specs.Errors.{refusal_told}
+use Rattle.dwc_extents.specs.InForceSeen.{in_force_view}
 use Rattle.dwc_clone.proofs.NumbersKept.{keeps-not, keeps-variable}
 use Rattle.dwc_clone.proofs.ContextLaws.{context-other, context-over, context-refused}
 use Rattle.dwc_clone.proofs.entry.add_context.Goals as goal

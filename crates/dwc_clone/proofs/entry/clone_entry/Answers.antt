@@ -2,11 +2,12 @@ use Rattle.std.proofs.Common.{◌≡◌, ℕ, ◌+◌, ◌∷◌, ◌++◌, leng
 use Rattle.std.specs.Prelude.{reverse}
 use Rattle.dwc_dwarf.specs.Lists.{list_source}
 use Rattle.dwc_read.specs.EntriesSeen.{entry_view}
-use Rattle.dwc_write.specs.GivenUnits.{IsReserved}
+use Rattle.dwc_unit.specs.GivenUnits.{IsReserved}
 use Rattle.dwc_clone.specs.BuiltUnits.{TakesRoles, numbers_taken}
 use Rattle.dwc_clone.specs.ClonedUnits.{goal_number}
-use Rattle.dwc_clone.specs.ClonedEntries.{CanAdd, placed_entry}
-use Rattle.dwc_clone.specs.Lineages.{AreInForce, HasOwnScope}
+use Rattle.dwc_clone.specs.ClonedEntries.{CanAdd}
+use Rattle.dwc_source.specs.Sources.{placed_entry}
+use Rattle.dwc_extents.specs.Lineages.{AreInForce, HasOwnScope}
 use Rattle.dwc_clone.specs.OpenWrappers.{CanCloseAll, IsOther, closed_from, still_open}
 use Rattle.dwc_clone.specs.WrappedEntries.{IsWrapped}
 use Rattle.dwc_clone.proofs.ClonedSteps.{at-place, can-add-kept, can-itself, can-wrapped, follows-next, gives-itself_cloned, gives-wrapped_cloned, next-in-force, other-still, stands}

@@ -6,12 +6,13 @@ use Rattle.dwc_rules.specs.ContextVariable.{context_over}
 use Rattle.dwc_rules.specs.DraftForests.{settled}
 use Rattle.dwc_dwarf.specs.Lists.{list_source}
 use Rattle.dwc_rules.specs.RangeAttributes.{range_attributes}
-use Rattle.dwc_clone.specs.ClonedUnits.{source_with}
+use Rattle.dwc_extents.specs.CodeSources.{source_with}
 use Rattle.dwc_read.specs.EntriesSeen.{entry_view}
 use Rattle.dwc_clone.specs.declared.entry.PlacedEntry.{PlacedEntry}
-use Rattle.dwc_clone.specs.Errors.{refusal_told}
+use Rattle.dwc_source.specs.Errors.{refusal_told}
 use Rattle.dwc_clone.specs.ContextPlaces.{AddsVariable}
-use Rattle.dwc_clone.specs.ClonedEntries.{AddsBelow, IsGiven, IsLast, last_parent, placed_entry, values_wanted}
+use Rattle.dwc_clone.specs.ClonedEntries.{AddsBelow, IsGiven, IsLast, last_parent, values_wanted}
+use Rattle.dwc_source.specs.Sources.{placed_entry}
 use Rattle.dwc_clone.specs.OpenWrappers.{KeepsNumbers}
 use Rattle.dwc_clone.specs.Tellings.{tell_of}
 use Rattle.dwc_clone.proofs.EntryValues.{given-last, given-on, on-ok, succeeded}

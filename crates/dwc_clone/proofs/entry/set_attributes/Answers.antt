@@ -7,10 +7,11 @@ use Rattle.dwc_read.specs.declared.value.AttributeValue.TheVariants.{Addr}
 use Rattle.dwc_read.specs.ValuesSeen.{attribute_view}
 use Rattle.dwc_read.specs.EntriesSeen.{entry_view}
 use Rattle.dwc_read.proofs.ReadValueLaws.{attrs-read}
-use Rattle.dwc_clone.specs.ClonedEntries.{placed_entry, with_made}
+use Rattle.dwc_clone.specs.ClonedEntries.{with_made}
+use Rattle.dwc_source.specs.Sources.{placed_entry}
 use Rattle.dwc_clone.specs.Tellings.{tell_of}
 use Rattle.dwc_clone.proofs.EntryValues.{AreSetSoFar, attributes-drop, before-next, made-places, set-end, set-more, set-refused, set-start}
-use Rattle.dwc_clone.proofs.KnownLaws.{known-grown}
+use Rattle.dwc_source.proofs.KnownLaws.{known-grown}
 use Rattle.dwc_clone.proofs.ToldLaws.{keeps-told}
 use Rattle.dwc_clone.proofs.entry.set_attributes.Goals as goal
 

@@ -4,12 +4,12 @@ use Rattle.dwc_rules.specs.Drafts.{Goal}
 use Rattle.dwc_rules.specs.Clones.{UnitSource}
 use Rattle.dwc_read.specs.ValuesSeen.{attribute_view}
 use Rattle.dwc_read.specs.EntriesSeen.{entry_view}
-use Rattle.dwc_write.specs.GivenUnits.{Addition, GivenUnit}
-use Rattle.dwc_clone.specs.Sources.{IsSource}
-use Rattle.dwc_clone.specs.KnownTexts.{KnowsTexts}
-use Rattle.dwc_clone.specs.ClonedUnits.{GivesInForce}
-use Rattle.dwc_clone.specs.ClonedEntries.{IsLast, placed_entry}
-use Rattle.dwc_clone.specs.MadeValues.{ArePlaced}
+use Rattle.dwc_unit.specs.GivenUnits.{Addition, GivenUnit}
+use Rattle.dwc_source.specs.Sources.{IsSource, placed_entry}
+use Rattle.dwc_source.specs.KnownTexts.{KnowsTexts}
+use Rattle.dwc_extents.specs.CodeSources.{GivesInForce}
+use Rattle.dwc_clone.specs.ClonedEntries.{IsLast}
+use Rattle.dwc_source.specs.MadeValues.{ArePlaced}
 use Rattle.dwc_clone.specs.Tellings.{tell_of}
 use Rattle.dwc_clone.proofs.EntryValues.{AreSetSoFar}
 use Rattle.dwc_clone.proofs.entry.set_attributes.Given as goal

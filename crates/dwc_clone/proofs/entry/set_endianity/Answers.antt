@@ -2,8 +2,8 @@ use Rattle.std.proofs.Common.{sym, ap, subst, ◌∙◌, [], ◌∷◌}
 use Rattle.std.specs.Prelude.{filter_map}
 use Rattle.dwc_base.specs.declared.constants.TheConstants.{DW_AT_endianity, DW_END_little, DW_FORM_data1}
 use Rattle.dwc_dwarf.specs.Trees.{constant}
-use Rattle.dwc_write.specs.declared.attributes.AttributeValue.TheVariants.{Constant}
-use Rattle.dwc_write.specs.GivenUnits.{with_value}
+use Rattle.dwc_unit.specs.declared.attributes.AttributeValue.TheVariants.{Constant}
+use Rattle.dwc_unit.specs.GivenUnits.{with_value}
 use Rattle.dwc_rules.specs.DraftForests.{settled}
 use Rattle.dwc_clone.specs.ClonedEntries.{IsGiven}
 use Rattle.dwc_clone.proofs.EntryValues.{endianity-given, endianity-there, on-ok}

@@ -1,7 +1,7 @@
 use Rattle.std.proofs.Common.{subst, sym}
-use Rattle.dwc_write.specs.GivenUnits.{IsAdded, with_child, with_next}
-use Rattle.dwc_write.proofs.NumberLaws.{added-on-child, added-on-next}
-use Rattle.dwc_write.specs.declared.units.UnitEntryId.{UnitEntryId}
+use Rattle.dwc_unit.specs.GivenUnits.{IsAdded, with_child, with_next}
+use Rattle.dwc_unit.proofs.NumberLaws.{added-on-child, added-on-next}
+use Rattle.dwc_unit.specs.declared.units.UnitEntryId.{UnitEntryId}
 use Rattle.dwc_clone.proofs.EntryPaths.{added-next}
 use Rattle.dwc_clone.proofs.MadeEntryLaws.{values-kept}
 use Rattle.dwc_clone.proofs.made.add_made.Goals as goal

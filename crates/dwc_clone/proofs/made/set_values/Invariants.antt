@@ -1,5 +1,5 @@
 use Rattle.std.proofs.Common.{◌≡◌, drop}
-use Rattle.dwc_write.specs.GivenUnits.{IsAdded}
+use Rattle.dwc_unit.specs.GivenUnits.{IsAdded}
 use Rattle.dwc_clone.specs.MadeAttributes.{with_values}
 use Rattle.dwc_clone.proofs.made.set_values.Given as goal
 

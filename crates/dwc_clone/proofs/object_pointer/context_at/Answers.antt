@@ -2,7 +2,7 @@ use Rattle.std.proofs.Common.{◌≡◌, pos, to_z, of_z, w64, rules, ◌-ℤ◌
 use Rattle.dwc_rules.specs.Scopes.{top_at}
 use Rattle.dwc_read.specs.EntriesSeen.{natural}
 use Rattle.dwc_clone.specs.ParameterContexts.{next_number}
-use Rattle.dwc_clone.specs.StacksByDepth.{with_top}
+use Rattle.dwc_extents.specs.StacksByDepth.{with_top}
 use Rattle.dwc_clone.proofs.StackDepths.{met-none, met-some}
 use Rattle.dwc_clone.proofs.object_pointer.context_at.Goals as goal
 

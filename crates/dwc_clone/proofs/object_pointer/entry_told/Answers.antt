@@ -4,7 +4,7 @@ use Rattle.std.proofs.lemmas.Bool.{eq-eqb, ne_eqb}
 use Rattle.dwc_base.specs.declared.constants.TheConstants.{DW_TAG_formal_parameter}
 use Rattle.dwc_rules.specs.Scopes.{left_for, top_at}
 use Rattle.dwc_read.specs.EntriesSeen.{entry_view, natural}
-use Rattle.dwc_clone.specs.ClonedEntries.{placed_entry}
+use Rattle.dwc_source.specs.Sources.{placed_entry}
 use Rattle.dwc_clone.specs.ParameterContexts.{GivesTelling, told_behind}
 use Rattle.dwc_clone.proofs.ParameterLaws.{parameters-told, plain-told, this-emitted}
 use Rattle.dwc_clone.proofs.ParameterWalks.{is_parameter, with-other}

@@ -3,9 +3,9 @@ use Rattle.std.proofs.lemmas.Result.{err_from_is_err_and}
 use Rattle.dwc_rules.specs.Refusals.{of_place}
 use Rattle.dwc_read.specs.EntriesSeen.{entry_view}
 use Rattle.dwc_read.specs.Faults.{fault_seen}
-use Rattle.dwc_clone.specs.ClonedEntries.{placed_entry}
-use Rattle.dwc_clone.specs.TypeChains.{type_view}
-use Rattle.dwc_clone.proofs.ErrorLaws.{told-reading}
+use Rattle.dwc_source.specs.Sources.{placed_entry}
+use Rattle.dwc_types.specs.TypeChains.{type_view}
+use Rattle.dwc_source.proofs.ErrorLaws.{told-reading}
 use Rattle.dwc_clone.proofs.ParameterLaws.{pointer-read, type-readable}
 use Rattle.dwc_clone.proofs.object_pointer.goes_to_pointer.Goals as goal
 

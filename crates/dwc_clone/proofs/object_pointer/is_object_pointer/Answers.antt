@@ -3,7 +3,7 @@ use Rattle.std.specs.Prelude.{◌&&◌, ◌||◌}
 use Rattle.std.proofs.lemmas.Bool.{ne_eqb}
 use Rattle.dwc_rules.specs.ObjectPointers.{looks_like_this}
 use Rattle.dwc_read.specs.EntriesSeen.{entry_view}
-use Rattle.dwc_clone.specs.ClonedEntries.{placed_entry}
+use Rattle.dwc_source.specs.Sources.{placed_entry}
 use Rattle.dwc_clone.specs.ParameterContexts.{GivesOnly, is_first}
 use Rattle.dwc_clone.proofs.object_pointer.is_object_pointer.Goals as goal
 

@@ -6,7 +6,7 @@ use Rattle.dwc_rules.specs.ObjectPointers.{is_pointer, is_set_flag, is_this_name
 use Rattle.dwc_rules.specs.TypeNames.{type_of}
 use Rattle.dwc_read.specs.EntriesSeen.{entry_view}
 use Rattle.dwc_read.specs.ValuesSeen.{value_view}
-use Rattle.dwc_clone.specs.ClonedEntries.{placed_entry}
+use Rattle.dwc_source.specs.Sources.{placed_entry}
 use Rattle.dwc_clone.specs.ParameterContexts.{GivesOnly}
 use Rattle.dwc_clone.proofs.object_pointer.looks_like_this.Goals as goal
 

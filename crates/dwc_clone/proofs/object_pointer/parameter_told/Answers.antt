@@ -4,7 +4,7 @@ use Rattle.std.proofs.lemmas.Result.{err_from_is_err_and}
 use Rattle.dwc_rules.specs.Scopes.{top_at}
 use Rattle.dwc_read.specs.EntriesSeen.{entry_view}
 use Rattle.dwc_clone.specs.declared.object_pointer.Telling.TheVariants.{Plain, ObjectPointer}
-use Rattle.dwc_clone.specs.ClonedEntries.{placed_entry}
+use Rattle.dwc_source.specs.Sources.{placed_entry}
 use Rattle.dwc_clone.proofs.ParameterLaws.{told-by}
 use Rattle.dwc_clone.proofs.object_pointer.parameter_told.Goals as goal
 

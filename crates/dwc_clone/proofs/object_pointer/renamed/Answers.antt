@@ -7,10 +7,10 @@ use Rattle.dwc_dwarf.specs.Indexed.{texts_of_unit}
 use Rattle.dwc_dwarf.specs.Trees.{text}
 use Rattle.dwc_read.specs.Faults.{fault_seen}
 use Rattle.dwc_read.specs.ValuesSeen.{value_view}
-use Rattle.dwc_clone.specs.MadeValues.{SaysMore}
+use Rattle.dwc_source.specs.MadeValues.{SaysMore}
 use Rattle.dwc_clone.proofs.EntryValues.{grows-on}
-use Rattle.dwc_clone.proofs.ErrorLaws.{told-reading}
-use Rattle.dwc_clone.proofs.TextLaws.{reported-text-read}
+use Rattle.dwc_source.proofs.ErrorLaws.{told-reading}
+use Rattle.dwc_source.proofs.TextLaws.{reported-text-read}
 use Rattle.dwc_clone.proofs.ToldLaws.{name-refused, name-said, name-stays}
 use Rattle.dwc_clone.proofs.object_pointer.renamed.Goals as goal
 

@@ -5,9 +5,9 @@ use Rattle.dwc_base.specs.declared.constants.TheConstants.{DW_AT_artificial, DW_
 use Rattle.dwc_rules.specs.Clones.{attribute_becomes}
 use Rattle.dwc_rules.specs.ObjectPointers.{names_no_pointer, unlike_this}
 use Rattle.dwc_read.specs.ValuesSeen.{value_view}
-use Rattle.dwc_write.specs.GivenUnits.{FitsValue}
-use Rattle.dwc_clone.specs.ClonedUnits.{clone_rules}
-use Rattle.dwc_clone.specs.MadeValues.{GivesMade, SaysMore, wanted_value}
+use Rattle.dwc_unit.specs.GivenUnits.{FitsValue}
+use Rattle.dwc_extents.specs.CodeSources.{clone_rules}
+use Rattle.dwc_source.specs.MadeValues.{GivesMade, SaysMore, wanted_value}
 use Rattle.dwc_clone.specs.ClonedEntries.{told_draft}
 use Rattle.dwc_clone.specs.Tellings.{tell_of}
 use Rattle.dwc_clone.proofs.ToldLaws.{artificial-told, function-gone, function-stays, other-told, plain-told, says-as, says-none}

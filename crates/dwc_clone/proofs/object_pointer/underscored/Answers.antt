@@ -1,9 +1,9 @@
 use Rattle.std.proofs.Common.{◌++◌, ap, subst, ◌∙◌, Some}
 use Rattle.dwc_rules.specs.Drafts.{done}
 use Rattle.dwc_dwarf.specs.Trees.{text}
-use Rattle.dwc_write.specs.declared.attributes.AttributeValue.TheVariants.{StringRef}
-use Rattle.dwc_clone.specs.MadeValues.{SaysMore}
-use Rattle.dwc_clone.proofs.TextLaws.{text-says}
+use Rattle.dwc_unit.specs.declared.attributes.AttributeValue.TheVariants.{StringRef}
+use Rattle.dwc_source.specs.MadeValues.{SaysMore}
+use Rattle.dwc_source.proofs.TextLaws.{text-says}
 use Rattle.dwc_clone.proofs.object_pointer.underscored.Goals as goal
 
 pub returns-in-Ok-clause-says : goal.returns-in-Ok-clause-says

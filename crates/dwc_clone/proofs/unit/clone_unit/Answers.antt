@@ -12,15 +12,15 @@ use Rattle.dwc_base.specs.Listing.{Listing}
 use Rattle.dwc_dwarf.specs.ReadValues.{IsReadEntry}
 use Rattle.dwc_base.specs.Sections.{Fault}
 use Rattle.dwc_read.specs.EntriesSeen.{entry_view}
-use Rattle.dwc_write.specs.GivenUnits.{IsAdded, IsReserved}
-use Rattle.dwc_clone.specs.Errors.{refusal_told}
+use Rattle.dwc_unit.specs.GivenUnits.{IsAdded, IsReserved}
+use Rattle.dwc_source.specs.Errors.{refusal_told}
 use Rattle.dwc_clone.specs.BuiltUnits.{AreRoles}
 use Rattle.dwc_clone.specs.ClonedEntries.{AreKnown}
 use Rattle.dwc_clone.specs.ClonedUnits.{AreClonable, TellsFirst, clone_refusals, picked, placed_in}
-use Rattle.dwc_clone.specs.CompiledModules.{HasFrames}
-use Rattle.dwc_clone.specs.Lineages.{AreWalked}
+use Rattle.dwc_source.specs.CompiledModules.{HasFrames}
+use Rattle.dwc_extents.specs.Lineages.{AreWalked}
 use Rattle.dwc_clone.specs.OpenWrappers.{CanCloseAll, IsOther, reserved_more}
-use Rattle.dwc_clone.specs.Sources.{AreEmitted, IsSource}
+use Rattle.dwc_source.specs.Sources.{AreEmitted, IsSource}
 use Rattle.dwc_clone.proofs.BegunNumberLaws.{AreNotedSoFar, begun-first, noted_beside, noted-begin, noted-done, noted-more}
 use Rattle.dwc_clone.proofs.EntryValues.{succeeded}
 use Rattle.dwc_clone.proofs.UnitSteps.{AreAmong, advance-refused, among-end, among-more, among-refused, among-start, can-add-next, gone-not, gone-on, picked-here, picked-none, picked-not, picked-past, reserved-behind, root-known}

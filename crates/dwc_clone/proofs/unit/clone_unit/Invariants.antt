@@ -7,16 +7,16 @@ use Rattle.dwc_rules.specs.RangeAttributes.{begun_function}
 use Rattle.dwc_rules.specs.Clones.{UnitSource}
 use Rattle.dwc_rules.specs.Drafts.{Role}
 use Rattle.dwc_dwarf.specs.ReadValues.{IsReadEntry}
-use Rattle.dwc_write.specs.GivenUnits.{IsReserved}
+use Rattle.dwc_unit.specs.GivenUnits.{IsReserved}
 use Rattle.dwc_clone.specs.BuiltUnits.{AreRoles}
-use Rattle.dwc_clone.specs.Sources.{AreEmitted, IsSource}
+use Rattle.dwc_source.specs.Sources.{AreEmitted, IsSource}
 use Rattle.dwc_clone.specs.ClonedUnits.{picked, placed_in, AreClonable}
-use Rattle.dwc_clone.specs.CompiledModules.{HasFrames}
-use Rattle.dwc_clone.specs.Lineages.{AreWalked}
-use Rattle.dwc_clone.specs.KnownTexts.{KnowsTexts}
+use Rattle.dwc_source.specs.CompiledModules.{HasFrames}
+use Rattle.dwc_extents.specs.Lineages.{AreWalked}
+use Rattle.dwc_source.specs.KnownTexts.{KnowsTexts}
 use Rattle.dwc_clone.specs.OpenWrappers.{CanCloseAll, IsOther, reserved_more}
 use Rattle.dwc_clone.specs.ClonedEntries.{AreKnown}
-use Rattle.dwc_clone.specs.TypeSteps.{AreNames}
+use Rattle.dwc_types.specs.TypeSteps.{AreNames}
 use Rattle.dwc_clone.proofs.BegunNumberLaws.{AreNotedSoFar, noted_beside}
 use Rattle.dwc_clone.proofs.UnitSteps.{AreAmong}
 use Rattle.dwc_clone.proofs.unit.clone_unit.Given as goal

@@ -6,10 +6,10 @@ use Rattle.dwc_rules.specs.RangeRules.{code_becomes, told_as}
 use Rattle.dwc_rules.specs.Refusals.{of_place}
 use Rattle.dwc_read.specs.Faults.{fault_seen}
 use Rattle.dwc_read.specs.ValuesSeen.{value_view}
-use Rattle.dwc_clone.specs.Errors.{refusal_told}
-use Rattle.dwc_clone.specs.MadeValues.{RefusesSo}
+use Rattle.dwc_source.specs.Errors.{refusal_told}
+use Rattle.dwc_source.specs.MadeValues.{RefusesSo}
 use Rattle.dwc_clone.proofs.CodeValueLaws.{address-none, address-says, address-told}
-use Rattle.dwc_clone.proofs.ErrorLaws.{told-reading}
+use Rattle.dwc_source.proofs.ErrorLaws.{told-reading}
 use Rattle.dwc_clone.proofs.value.address.Goals as goal
 
 pub returns-in-Ok-Some-clause-made : goal.returns-in-Ok-Some-clause-made

@@ -10,14 +10,14 @@ use Rattle.dwc_rules.specs.Drafts.{done}
 use Rattle.dwc_rules.specs.Clones.{constant_becomes, reference_becomes, value_becomes}
 use Rattle.dwc_dwarf.specs.ReadValues.{IsReadValue}
 use Rattle.dwc_read.specs.ValuesSeen.{value_view}
-use Rattle.dwc_write.specs.declared.attributes.AttributeValue.{AttributeValue}
-use Rattle.dwc_write.specs.GivenUnits.{FitsValue}
-use Rattle.dwc_clone.specs.declared.error.CloneError.{CloneError}
-use Rattle.dwc_clone.specs.Errors.{refusal_told}
-use Rattle.dwc_clone.specs.ClonedUnits.{clone_rules, source_with}
-use Rattle.dwc_clone.specs.MadeValues.{GivesMade, RefusesSo, Says, SaysMore, any_reference, own_reference, target_place}
+use Rattle.dwc_unit.specs.declared.attributes.AttributeValue.{AttributeValue}
+use Rattle.dwc_unit.specs.GivenUnits.{FitsValue}
+use Rattle.dwc_source.specs.declared.error.CloneError.{CloneError}
+use Rattle.dwc_source.specs.Errors.{refusal_told}
+use Rattle.dwc_extents.specs.CodeSources.{clone_rules, source_with}
+use Rattle.dwc_source.specs.MadeValues.{GivesMade, RefusesSo, Says, SaysMore, any_reference, own_reference, target_place}
 use Rattle.dwc_clone.proofs.CodeValueLaws.{address-kind, list-kind, list-named, locations-kind, locations-named, more-made}
-use Rattle.dwc_clone.proofs.TextLaws.{Grows-same}
+use Rattle.dwc_source.proofs.TextLaws.{Grows-same}
 use Rattle.dwc_clone.proofs.ValueLaws.{address-becomes, expression-becomes, gone-becomes, list-becomes, locations-becomes, made-none, made-same, text-becomes}
 use Rattle.dwc_clone.proofs.ReferenceLaws.{any-says, own-says}
 use Rattle.dwc_clone.proofs.value.any_value.Goals as goal

@@ -6,8 +6,8 @@ use Rattle.dwc_dwarf.specs.Values as Values
 use Rattle.dwc_rules.specs.Drafts.{done}
 use Rattle.dwc_rules.specs.Clones.{constant_becomes, reference_becomes, value_becomes}
 use Rattle.dwc_read.specs.ValuesSeen.{value_view}
-use Rattle.dwc_clone.specs.ClonedUnits.{clone_rules}
-use Rattle.dwc_clone.specs.MadeValues.{Says, own_reference, target_place}
+use Rattle.dwc_extents.specs.CodeSources.{clone_rules}
+use Rattle.dwc_source.specs.MadeValues.{Says, own_reference, target_place}
 use Rattle.dwc_clone.proofs.ValueLaws.{made-same}
 use Rattle.dwc_clone.proofs.ReferenceLaws.{own-says}
 use Rattle.dwc_clone.proofs.value.output_value.Goals as goal

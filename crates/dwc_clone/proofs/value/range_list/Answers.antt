@@ -4,11 +4,11 @@ use Rattle.dwc_rules.specs.EntryRules.{of_list}
 use Rattle.dwc_dwarf.specs.Lists.{list_source}
 use Rattle.dwc_rules.specs.RangeRules.{code_becomes, told_as}
 use Rattle.dwc_read.specs.ValuesSeen.{value_view}
-use Rattle.dwc_clone.specs.Errors.{refusal_told}
-use Rattle.dwc_write.specs.declared.attributes.AttributeValue.TheVariants.{RangeListRef}
-use Rattle.dwc_write.specs.declared.lists.RangeList.{RangeList}
-use Rattle.dwc_write.specs.RangeLists.{FitsRange}
-use Rattle.dwc_clone.specs.MadeValues.{IsMade, RefusesSo, Says}
+use Rattle.dwc_source.specs.Errors.{refusal_told}
+use Rattle.dwc_unit.specs.declared.attributes.AttributeValue.TheVariants.{RangeListRef}
+use Rattle.dwc_unit.specs.declared.lists.RangeList.{RangeList}
+use Rattle.dwc_unit.specs.RangeLists.{FitsRange}
+use Rattle.dwc_source.specs.MadeValues.{IsMade, RefusesSo, Says}
 use Rattle.dwc_clone.proofs.CodeValueLaws.{list-says, list-told}
 use Rattle.dwc_clone.proofs.value.range_list.Goals as goal
 

@@ -8,10 +8,10 @@ use Rattle.dwc_dwarf.specs.Trees as Trees
 use Rattle.dwc_rules.specs.Clones.{text_drafted}
 use Rattle.dwc_read.specs.Faults.{fault_seen}
 use Rattle.dwc_read.specs.ValuesSeen.{value_view}
-use Rattle.dwc_clone.specs.MadeValues.{Grows}
-use Rattle.dwc_clone.proofs.ErrorLaws.{told-reading}
-use Rattle.dwc_clone.proofs.TextLaws.{added, reported-text-read, text-says}
-use Rattle.dwc_clone.proofs.KnownLaws.{added-known, known-says, unplaced-refused}
+use Rattle.dwc_source.specs.MadeValues.{Grows}
+use Rattle.dwc_source.proofs.ErrorLaws.{told-reading}
+use Rattle.dwc_source.proofs.TextLaws.{added, reported-text-read, text-says}
+use Rattle.dwc_source.proofs.KnownLaws.{added-known, known-says, unplaced-refused}
 use Rattle.dwc_clone.proofs.value.text.Goals as goal
 
 pub returns-in_err-place-clause-made : goal.returns-in_err-place-clause-made

@@ -2,7 +2,7 @@ use Rattle.std.proofs.Common.{◌≡◌, ap, length, reverse, sym, subst, ◌∙
 use Rattle.std.specs.Prelude.{IfOk, OnOk}
 use Rattle.std.proofs.lemmas.List.{reverse-append}
 use Rattle.dwc_base.specs.declared.constants.TheConstants.{DW_TAG_structure_type}
-use Rattle.dwc_write.specs.GivenUnits.{GivenUnit, IsReserved}
+use Rattle.dwc_unit.specs.GivenUnits.{GivenUnit, IsReserved}
 use Rattle.dwc_clone.specs.ClonedEntries.{AddsBelow, AreKnown, last_parent}
 use Rattle.dwc_clone.specs.OpenWrappers.{CanCloseAll, IsOpened, IsOther, wrapper_added}
 use Rattle.dwc_clone.proofs.WrapperAdded.{opened-can, opened-known, opened-other}

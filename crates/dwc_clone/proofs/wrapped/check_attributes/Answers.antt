@@ -4,7 +4,7 @@ use Rattle.std.proofs.lemmas.Result.{err_from_is_err_and}
 use Rattle.dwc_read.specs.ValuesSeen.{attribute_view}
 use Rattle.dwc_read.specs.EntriesSeen.{entry_view}
 use Rattle.dwc_read.proofs.ReadValueLaws.{attrs-read}
-use Rattle.dwc_clone.specs.ClonedEntries.{placed_entry}
+use Rattle.dwc_source.specs.Sources.{placed_entry}
 use Rattle.dwc_clone.proofs.EntryValues.{attributes-drop, before-next, grows-not, grows-on}
 use Rattle.dwc_clone.proofs.CheckedAttributes.{AreReadSoFar, read-end, read-more, read-refused, read-start}
 use Rattle.dwc_clone.proofs.wrapped.check_attributes.Goals as goal

@@ -2,11 +2,10 @@ use Rattle.std.proofs.Common.{◌≡◌, ℕ, drop, map}
 use Rattle.dwc_rules.specs.Clones.{UnitSource}
 use Rattle.dwc_read.specs.ValuesSeen.{attribute_view}
 use Rattle.dwc_read.specs.EntriesSeen.{entry_view}
-use Rattle.dwc_clone.specs.Sources.{IsSource}
-use Rattle.dwc_clone.specs.KnownTexts.{KnowsTexts}
-use Rattle.dwc_clone.specs.MadeValues.{Grows}
-use Rattle.dwc_clone.specs.ClonedUnits.{GivesInForce}
-use Rattle.dwc_clone.specs.ClonedEntries.{placed_entry}
+use Rattle.dwc_source.specs.Sources.{IsSource, placed_entry}
+use Rattle.dwc_source.specs.KnownTexts.{KnowsTexts}
+use Rattle.dwc_source.specs.MadeValues.{Grows}
+use Rattle.dwc_extents.specs.CodeSources.{GivesInForce}
 use Rattle.dwc_clone.proofs.CheckedAttributes.{AreReadSoFar}
 use Rattle.dwc_clone.proofs.wrapped.check_attributes.Given as goal
 

@@ -1,9 +1,9 @@
 use Rattle.std.proofs.lemmas.Result.{err_from_is_err_and}
 use Rattle.dwc_read.specs.EntriesSeen.{entry_view}
-use Rattle.dwc_clone.specs.Errors.{refusal_told}
-use Rattle.dwc_clone.specs.ClonedEntries.{placed_entry}
-use Rattle.dwc_clone.proofs.KnownLaws.{known-grown}
-use Rattle.dwc_clone.proofs.NotedNameLaws.{names-grown}
+use Rattle.dwc_source.specs.Errors.{refusal_told}
+use Rattle.dwc_source.specs.Sources.{placed_entry}
+use Rattle.dwc_source.proofs.KnownLaws.{known-grown}
+use Rattle.dwc_types.proofs.NotedNameLaws.{names-grown}
 use Rattle.dwc_clone.proofs.WrapperNames.{attributes-refused, gives-name}
 use Rattle.dwc_clone.proofs.wrapped.read_wrapper_name.Goals as goal
 

@@ -2,12 +2,13 @@ use Rattle.std.proofs.Common.{ℕ, List, subst}
 use Rattle.std.specs.Prelude.{IfOk}
 use Rattle.std.proofs.lemmas.Result.{err_from_is_err_and}
 use Rattle.dwc_read.specs.EntriesSeen.{entry_view}
-use Rattle.dwc_clone.specs.ClonedEntries.{placed_entry}
-use Rattle.dwc_clone.specs.KnownTexts.{IsNumbered}
+use Rattle.dwc_source.specs.Sources.{placed_entry}
+use Rattle.dwc_source.specs.KnownTexts.{IsNumbered}
 use Rattle.dwc_clone.specs.OpenWrappers.{HasWrapperTexts}
-use Rattle.dwc_clone.proofs.KnownLaws.{known-grown}
-use Rattle.dwc_clone.proofs.NotedNameLaws.{names-grown}
-use Rattle.dwc_clone.proofs.WrapperNames.{always-ok, gives-wrapped}
+use Rattle.dwc_source.proofs.KnownLaws.{known-grown}
+use Rattle.dwc_types.proofs.NotedNameLaws.{names-grown}
+use Rattle.dwc_clone.proofs.WrapperNames.{gives-wrapped}
+use Rattle.dwc_source.proofs.ErrorLaws.{always-ok}
 use Rattle.dwc_clone.proofs.wrapped.wrap_entry.Goals as goal
 
 pub returns-in_err-name-clause-wrapped : goal.returns-in_err-name-clause-wrapped

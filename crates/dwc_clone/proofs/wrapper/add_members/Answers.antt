@@ -1,5 +1,5 @@
 use Rattle.std.proofs.Common.{subst, sym}
-use Rattle.dwc_write.specs.GivenUnits.{IsAdded}
+use Rattle.dwc_unit.specs.GivenUnits.{IsAdded}
 use Rattle.dwc_clone.proofs.MadeEntryLaws.{type-kept}
 use Rattle.dwc_clone.proofs.wrapper.add_members.Goals as goal
 

@@ -1,6 +1,6 @@
 use Rattle.std.proofs.Common.{◌∙◌, Some, ap, subst, sym}
 use Rattle.dwc_base.specs.declared.constants.TheConstants.{DW_TAG_pointer_type, DW_TAG_reference_type}
-use Rattle.dwc_write.specs.GivenUnits.{IsAdded}
+use Rattle.dwc_unit.specs.GivenUnits.{IsAdded}
 use Rattle.dwc_clone.specs.OpenWrappers.{with_type}
 use Rattle.dwc_clone.proofs.OpenWrapperLaws.{first-parent, first-reference, second-parent, second-pointer, typed-here}
 use Rattle.dwc_clone.proofs.wrapper.add_types.Goals as goal

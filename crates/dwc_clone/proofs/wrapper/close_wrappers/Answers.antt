@@ -1,7 +1,7 @@
 use Rattle.std.proofs.Common.{◌-◌, ap, length, subst, sym, take, ◌∙◌}
 use Rattle.std.specs.Prelude.{reverse, slice_get}
 use Rattle.std.proofs.lemmas.Bool.{le-ltb, lt-ltb}
-use Rattle.dwc_write.specs.GivenUnits.{IsAdded, IsReserved}
+use Rattle.dwc_unit.specs.GivenUnits.{IsAdded, IsReserved}
 use Rattle.dwc_clone.specs.OpenWrappers.{CanCloseAll, closed_from, still_open}
 use Rattle.dwc_clone.proofs.OpenWrapperLaws.{can-next, closed-here, closed-kept, closed-none, closed-reserved, closed-step, last-first, none-last, still-step}
 use Rattle.dwc_clone.proofs.wrapper.close_wrappers.Goals as goal

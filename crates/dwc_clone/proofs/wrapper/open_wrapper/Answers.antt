@@ -1,7 +1,7 @@
 use Rattle.std.proofs.Common.{ℕ, ◌∙◌, ap, subst, sym, List, [], ◌∷◌}
 use Rattle.dwc_base.specs.declared.constants.TheConstants.{DW_AT_byte_size, DW_AT_name}
-use Rattle.dwc_write.specs.GivenUnits.{IsAdded, with_reserved}
-use Rattle.dwc_write.proofs.NumberLaws.{added-on-reserved}
+use Rattle.dwc_unit.specs.GivenUnits.{IsAdded, with_reserved}
+use Rattle.dwc_unit.proofs.NumberLaws.{added-on-reserved}
 use Rattle.dwc_clone.specs.declared.made.MadeValue.{MadeValue}
 use Rattle.dwc_clone.specs.declared.made.MadeValue.TheVariants.{Text}
 use Rattle.dwc_clone.specs.declared.wrapper.OpenWrapper.{OpenWrapper}

@@ -1,6 +1,6 @@
 use Rattle.std.proofs.Common.{arith}
 use Rattle.dwc_base.specs.Cursors.{slice_bytes}
-use Rattle.dwc_write.specs.SpelledLines.{FitsName}
+use Rattle.dwc_unit.specs.SpelledLines.{FitsName}
 use Rattle.dwc_image.proofs.LinesLaws.{mapped-at}
 use Rattle.dwc_image.proofs.lines.add_directories.Goals as goal
 

@@ -1,7 +1,7 @@
 use Rattle.std.proofs.Common.{◌+◌, ◌∷◌, ◌∙◌, ap, sym, subst, map, drop, arith, false}
 use Rattle.std.proofs.lemmas.List.{drop_more}
 use Rattle.dwc_addr.specs.Runs.{recorded_view}
-use Rattle.dwc_write.specs.GivenLines.{with_row}
+use Rattle.dwc_unit.specs.GivenLines.{with_row}
 use Rattle.dwc_image.specs.SimulatedSequences.{line_of_recorded, with_rows, CanAppendEach}
 use Rattle.dwc_image.proofs.simulated.add_later.Goals as goal
 

@@ -2,7 +2,7 @@ use Rattle.std.proofs.Common.{◌≡◌, ◌<◌, codes, length, Some, None, opt
 use Rattle.std.specs.FinMap as finite
 use Rattle.json.specs.Json.{read_key}
 use Rattle.serde_json.specs.View.{members_view}
-use Rattle.dwc_clif.specs.CallFrames.{description_view}
+use Rattle.dwc_isa.specs.CallFrames.{description_view}
 use Rattle.dwc_map.proofs.TokenFunctions.{FunctionAlong, function-entries, function-field, function-frame, function-labels, function-over, function-start}
 use Rattle.dwc_map.proofs.by_tokens.function_members.Goals as goal
 

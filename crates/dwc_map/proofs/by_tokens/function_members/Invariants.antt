@@ -1,6 +1,6 @@
 use Rattle.std.proofs.Common.{length, option_map}
 use Rattle.serde_json.specs.View.{members_view}
-use Rattle.dwc_clif.specs.CallFrames.{description_view}
+use Rattle.dwc_isa.specs.CallFrames.{description_view}
 use Rattle.dwc_map.proofs.TokenFunctions.{FunctionAlong}
 use Rattle.dwc_map.proofs.by_tokens.function_members.Given as goal
 

@@ -1,6 +1,6 @@
 use Rattle.std.proofs.Common.{◌≡◌, option_map, sym, subst, arith}
 use Rattle.serde_json.specs.View.{members_view}
-use Rattle.dwc_clif.specs.CallFrames.{description_view}
+use Rattle.dwc_isa.specs.CallFrames.{description_view}
 use Rattle.dwc_map.specs.MapFile.{function_by}
 use Rattle.dwc_map.specs.MapViews.{function_view}
 use Rattle.dwc_map.proofs.TokenFunctions.{function-told}

@@ -1,6 +1,6 @@
 use Rattle.std.proofs.Common.{◌≡◌, ◌++◌, map, drop, option_map}
 use Rattle.serde_json.specs.View.{items_view}
-use Rattle.dwc_clif.specs.CallFrames.{instruction_view}
+use Rattle.dwc_isa.specs.CallFrames.{instruction_view}
 use Rattle.dwc_map.specs.MapFrames.{instruction_of}
 use Rattle.dwc_map.specs.MapValues.{all_items}
 use Rattle.dwc_map.proofs.frames.read_instructions.Given as goal

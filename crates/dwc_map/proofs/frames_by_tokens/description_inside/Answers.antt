@@ -1,5 +1,5 @@
 use Rattle.std.proofs.Common.{map}
-use Rattle.dwc_clif.specs.CallFrames.{instruction_view}
+use Rattle.dwc_isa.specs.CallFrames.{instruction_view}
 use Rattle.dwc_map.proofs.TokenFrames.{description-told}
 use Rattle.dwc_map.proofs.TokenShapes.{number-told}
 use Rattle.dwc_map.proofs.frames_by_tokens.description_inside.Goals as goal

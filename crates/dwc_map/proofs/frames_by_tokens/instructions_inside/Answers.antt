@@ -1,6 +1,6 @@
 use Rattle.std.proofs.Common.{◌≡◌, Some, None, map, arith}
 use Rattle.json.specs.Json.{after_end_array}
-use Rattle.dwc_clif.specs.CallFrames.{instruction_view}
+use Rattle.dwc_isa.specs.CallFrames.{instruction_view}
 use Rattle.dwc_map.specs.MapFrames.{instruction_of}
 use Rattle.dwc_map.specs.MapValues.{pair_of, u32_of}
 use Rattle.dwc_map.proofs.TokenLists.{items-over, items-pushed}

@@ -1,6 +1,6 @@
 use Rattle.std.proofs.Common.{◌≡◌, ◌∷◌, arith}
 use Rattle.json.specs.Token as token
-use Rattle.dwc_clif.specs.CallFrames.{description_view}
+use Rattle.dwc_isa.specs.CallFrames.{description_view}
 use Rattle.dwc_map.proofs.TokenFrames.{frame-told, no-frame-told}
 use Rattle.dwc_map.proofs.frames_by_tokens.read_frame.Goals as goal
 

@@ -4,7 +4,7 @@ use Rattle.json.specs.Json.{after_end_array}
 use Rattle.json.proofs.Grammar.{after_end_array-shorter}
 use Rattle.serde_json.specs.Data.{item, no_items}
 use Rattle.serde_json.specs.View.{view}
-use Rattle.dwc_clif.specs.CallFrames.{instruction_view}
+use Rattle.dwc_isa.specs.CallFrames.{instruction_view}
 use Rattle.dwc_map.specs.ByTokens.{Tells}
 use Rattle.dwc_map.specs.MapFrames.{instruction_kinds, instruction_of}
 use Rattle.dwc_map.specs.MapValues.{named_in}

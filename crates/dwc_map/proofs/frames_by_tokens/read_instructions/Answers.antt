@@ -1,5 +1,5 @@
 use Rattle.std.proofs.Common.{map, arith, ◌-◌}
-use Rattle.dwc_clif.specs.CallFrames.{instruction_view}
+use Rattle.dwc_isa.specs.CallFrames.{instruction_view}
 use Rattle.dwc_map.specs.ByTokens.{Tells, TellsItems}
 use Rattle.dwc_map.specs.MapFrames.{instruction_of}
 use Rattle.dwc_map.specs.MapValues.{list_of, pair_of, u32_of}

@@ -1,5 +1,5 @@
 use Rattle.std.proofs.Common.{◌-◌, arith}
-use Rattle.dwc_clif.specs.CallFrames.{instruction_view}
+use Rattle.dwc_isa.specs.CallFrames.{instruction_view}
 use Rattle.dwc_map.specs.MapFrames.{instruction_of}
 use Rattle.dwc_map.specs.MapValues.{u32_of}
 use Rattle.dwc_map.proofs.TokenShapes.{number-told, pair-told}

@@ -1,6 +1,6 @@
 use Rattle.std.proofs.Common.{Some, map, option_map, ◌∙◌, sym, ap, arith}
 use Rattle.std.specs.Prelude.{is_some}
-use Rattle.dwc_clif.specs.ValueLabels.{range_view}
+use Rattle.dwc_isa.specs.ValueLabels.{range_view}
 use Rattle.dwc_map.specs.MapFile.{label_range_of}
 use Rattle.dwc_map.specs.MapValues.{list_of}
 use Rattle.dwc_map.specs.MapViews.{label_view}

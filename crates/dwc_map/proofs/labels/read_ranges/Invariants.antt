@@ -1,6 +1,6 @@
 use Rattle.std.proofs.Common.{◌≡◌, ◌++◌, map, drop, option_map}
 use Rattle.serde_json.specs.View.{items_view}
-use Rattle.dwc_clif.specs.ValueLabels.{range_view}
+use Rattle.dwc_isa.specs.ValueLabels.{range_view}
 use Rattle.dwc_map.specs.MapFile.{label_range_of}
 use Rattle.dwc_map.specs.MapValues.{all_items}
 use Rattle.dwc_map.proofs.labels.read_ranges.Given as goal

@@ -2,7 +2,7 @@ use Rattle.std.proofs.Common.{◌≡◌, ◌∷◌, ◌++◌, [], Some, None, fa
 use Rattle.std.specs.Prelude.{is_some}
 use Rattle.std.specs.FinMap as finite
 use Rattle.json.specs.Json.{after_end_array}
-use Rattle.dwc_clif.specs.ValueLabels.{range_view}
+use Rattle.dwc_isa.specs.ValueLabels.{range_view}
 use Rattle.dwc_map.specs.ByTokens.{Tells}
 use Rattle.dwc_map.specs.MapFile.{label_range_of}
 use Rattle.dwc_map.specs.MapValues.{list_of, pair_of, u32_of}

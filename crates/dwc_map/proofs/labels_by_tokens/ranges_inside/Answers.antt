@@ -1,6 +1,6 @@
 use Rattle.std.proofs.Common.{◌≡◌, Some, None, map, arith}
 use Rattle.json.specs.Json.{after_end_array}
-use Rattle.dwc_clif.specs.ValueLabels.{range_view}
+use Rattle.dwc_isa.specs.ValueLabels.{range_view}
 use Rattle.dwc_map.specs.MapFile.{label_range_of}
 use Rattle.dwc_map.proofs.TokenLists.{items-over, items-pushed}
 use Rattle.dwc_map.proofs.labels_by_tokens.ranges_inside.Goals as goal

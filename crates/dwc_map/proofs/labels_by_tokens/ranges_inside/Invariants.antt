@@ -1,5 +1,5 @@
 use Rattle.std.proofs.Common.{map, length}
-use Rattle.dwc_clif.specs.ValueLabels.{range_view}
+use Rattle.dwc_isa.specs.ValueLabels.{range_view}
 use Rattle.dwc_map.specs.MapFile.{label_range_of}
 use Rattle.dwc_map.proofs.TokenLists.{ItemsAlong}
 use Rattle.dwc_map.proofs.labels_by_tokens.ranges_inside.Given as goal

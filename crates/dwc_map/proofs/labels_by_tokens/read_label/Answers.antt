@@ -1,5 +1,5 @@
 use Rattle.std.proofs.Common.{◌-◌, map, arith}
-use Rattle.dwc_clif.specs.ValueLabels.{range_view}
+use Rattle.dwc_isa.specs.ValueLabels.{range_view}
 use Rattle.dwc_map.specs.MapFile.{label_range_of}
 use Rattle.dwc_map.specs.MapValues.{list_of, u32_of}
 use Rattle.dwc_map.proofs.TokenShapes.{number-told, pair-told}

@@ -1,5 +1,5 @@
 use Rattle.std.proofs.Common.{◌-◌}
-use Rattle.dwc_clif.specs.ValueLabels.{place_view}
+use Rattle.dwc_isa.specs.ValueLabels.{place_view}
 use Rattle.dwc_map.proofs.TokenLabels.{range-told}
 use Rattle.dwc_map.proofs.TokenShapes.{number-told}
 use Rattle.dwc_map.proofs.labels_by_tokens.read_range.Goals as goal

@@ -1,6 +1,6 @@
 use Rattle.std.proofs.Common.{map}
 use Rattle.std.proofs.lemmas.List.{length-map}
-use Rattle.dwc_base.specs.declared.wasm.ModuleTranslation.{ModuleTranslation}
+use Rattle.dwc_base.specs.declared.translation.ModuleTranslation.{ModuleTranslation}
 use Rattle.dwc_map.specs.MapViews.{module_view}
 use Rattle.dwc_map.proofs.MapKinds.{have_counts-another_length}
 use Rattle.dwc_map.proofs.map_file.has_counts.Goals as goal

@@ -1,6 +1,6 @@
 use Rattle.std.proofs.Common.{◌≡◌, ℕ, ◌≤◌, map, drop, length, nat_cmp, true}
 use Rattle.std.specs.BTreeSet.{contains}
-use Rattle.dwc_clif.specs.Registers.{numbers}
+use Rattle.dwc_isa.specs.Registers.{numbers}
 use Rattle.dwc_map.specs.MapValues.{has_key, have_distinct_keys}
 use Rattle.dwc_map.proofs.registers.are_distinct.Given as goal
 

@@ -1,6 +1,6 @@
 use Rattle.std.proofs.Common.{◌≡◌, ◌++◌, map, drop, option_map}
 use Rattle.serde_json.specs.View.{items_view}
-use Rattle.dwc_clif.specs.Registers.{numbers}
+use Rattle.dwc_isa.specs.Registers.{numbers}
 use Rattle.dwc_map.specs.MapValues.{u32_of, u16_of, pair_of, all_items}
 use Rattle.dwc_map.proofs.registers.read_pairs.Given as goal
 

@@ -11,7 +11,7 @@ use Rattle.dwc_read.proofs.AttributeLaws.{specs_from, attributes_at-more, attrib
 use Rattle.dwc_read.proofs.attribute.attributes.Goals as goal
 
 abbrev none : AttributeSpec
-none = record { name = 0; run = 0; run_bytes = 0; form = 0; implicit = pos 0 }
+none = record { name = 0; skip = 0; skip_bytes = 0; form = 0; implicit = pos 0 }
 
 pub returns-in_err-value : goal.returns-in_err-value
 returns-in_err-value c =

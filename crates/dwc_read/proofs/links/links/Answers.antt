@@ -5,15 +5,15 @@ use Rattle.dwc_base.specs.Reading.{◌>>=◌, seen_as}
 use Rattle.dwc_dwarf.specs.Values.{Value}
 use Rattle.dwc_read.specs.declared.attribute_spec.AttributeSpec.{AttributeSpec}
 use Rattle.dwc_read.specs.Links.{links_at}
-use Rattle.dwc_read.specs.Runs.{passed_bytes}
+use Rattle.dwc_read.specs.Skips.{passed_bytes}
 use Rattle.dwc_read.specs.ValuesSeen.{value_view, attribute_view}
 use Rattle.dwc_read.proofs.AttributeLaws.{specs_from}
 use Rattle.dwc_read.proofs.LinkValueLaws.{links_at-more, links_at-flaw, links_at-end, named-view, seen-with}
-use Rattle.dwc_read.proofs.RunLaws.{AreRuns-at, links_at-run}
+use Rattle.dwc_read.proofs.SkipLaws.{AreSkips-at, links_at-skip}
 use Rattle.dwc_read.proofs.links.links.Goals as goal
 
 abbrev none : AttributeSpec
-none = record { name = 0; run = 0; run_bytes = 0; form = 0; implicit = pos 0 }
+none = record { name = 0; skip = 0; skip_bytes = 0; form = 0; implicit = pos 0 }
 
 pub returns-in_err-take : goal.returns-in_err-take
 returns-in_err-take c =
@@ -23,9 +23,9 @@ returns-in_err-take c =
     let i = c.loop-at.at in
     let spec = get_or specs i none in
     let front = seen_as {A = List (ℕ × Value)} (λ ys. map attribute_view c.loop-at.found.items ++ ys) in
-    let run : passed_bytes spec.run (specs_from i specs) ≡ Some spec.run_bytes = AreRuns-at specs i none c.requires (omega arith) in
-    let cut = links_at-run unit.sections unit.header specs none spec.run spec.run_bytes i c.loop-at.cursor run
-    ∙ ap (λ r. r >>= λ x. links_at unit.sections unit.header (specs_from (i + spec.run) specs) x.1) c.in_err-take.ensures.read.0 in
+    let skip : passed_bytes spec.skip (specs_from i specs) ≡ Some spec.skip_bytes = AreSkips-at specs i none c.requires (omega arith) in
+    let cut = links_at-skip unit.sections unit.header specs none spec.skip spec.skip_bytes i c.loop-at.cursor skip
+    ∙ ap (λ r. r >>= λ x. links_at unit.sections unit.header (specs_from (i + spec.skip) specs) x.1) c.in_err-take.ensures.read.0 in
     rw (p.1, p.2) (sym c.loop-at.invariant ∙ ap front cut)
 
 pub loop-at-preserved-then-spec-gt0 : goal.loop-at-preserved-then-spec-gt0
@@ -35,9 +35,9 @@ loop-at-preserved-then-spec-gt0 c =
     let i = c.loop-at.at in
     let spec = get_or specs i none in
     let front = seen_as {A = List (ℕ × Value)} (λ ys. map attribute_view c.loop-at.found.items ++ ys) in
-    let run : passed_bytes spec.run (specs_from i specs) ≡ Some spec.run_bytes = AreRuns-at specs i none c.requires (omega arith) in
-    let passed = links_at-run unit.sections unit.header specs none spec.run spec.run_bytes i c.loop-at.cursor run
-    ∙ ap (λ r. r >>= λ x. links_at unit.sections unit.header (specs_from (i + spec.run) specs) x.1) c.in_ok-take.ensures.read in
+    let skip : passed_bytes spec.skip (specs_from i specs) ≡ Some spec.skip_bytes = AreSkips-at specs i none c.requires (omega arith) in
+    let passed = links_at-skip unit.sections unit.header specs none spec.skip spec.skip_bytes i c.loop-at.cursor skip
+    ∙ ap (λ r. r >>= λ x. links_at unit.sections unit.header (specs_from (i + spec.skip) specs) x.1) c.in_ok-take.ensures.read in
     ap front (sym passed) ∙ c.loop-at.invariant
 
 pub returns-in_err-link : goal.returns-in_err-link

@@ -1,6 +1,6 @@
 use Rattle.std.proofs.Common.{ap, ◌∙◌, Ok}
 use Rattle.std.proofs.lemmas.Result.{err_from_is_err_and}
-use Rattle.dwc_base.proofs.Steps.{number_at-from_bytes, number_at-no_bytes}
+use Rattle.dwc_base.proofs.ReadSteps.{number_at-from_bytes, number_at-no_bytes}
 use Rattle.dwc_read.proofs.NumberLaws.{number-three}
 use Rattle.dwc_read.proofs.number.three.Goals as goal
 

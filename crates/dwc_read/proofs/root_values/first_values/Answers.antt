@@ -7,7 +7,7 @@ use Rattle.dwc_read.proofs.RootLaws.{firsts-flaw, firsts-end, firsts-preserved}
 use Rattle.dwc_read.proofs.root_values.first_values.Goals as goal
 
 abbrev none : AttributeSpec
-none = record { name = 0; run = 0; run_bytes = 0; form = 0; implicit = pos 0 }
+none = record { name = 0; skip = 0; skip_bytes = 0; form = 0; implicit = pos 0 }
 
 pub loop-spec-preserved : goal.loop-spec-preserved
 loop-spec-preserved c =

@@ -8,7 +8,7 @@ use Rattle.dwc_read.proofs.ValueEndLaws.{attribute_ends-more, attribute_ends-fla
 use Rattle.dwc_read.proofs.value_end.attribute_end.Goals as goal
 
 abbrev none : AttributeSpec
-none = record { name = 0; run = 0; run_bytes = 0; form = 0; implicit = pos 0 }
+none = record { name = 0; skip = 0; skip_bytes = 0; form = 0; implicit = pos 0 }
 
 pub returns-in_default : goal.returns-in_default
 returns-in_default c =

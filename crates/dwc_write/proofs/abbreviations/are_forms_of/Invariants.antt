@@ -1,5 +1,5 @@
 use Rattle.std.proofs.Common.{◌≡◌, drop}
-use Rattle.dwc_write.specs.GivenUnits.{forms_of, same_forms}
+use Rattle.dwc_unit.specs.GivenUnits.{forms_of, same_forms}
 use Rattle.dwc_write.proofs.abbreviations.are_forms_of.Given as goal
 
 -- those that are left are the same exactly where all are

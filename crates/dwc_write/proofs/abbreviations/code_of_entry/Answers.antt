@@ -1,7 +1,7 @@
 use Rattle.std.proofs.Common.{◌≡◌, ◌∙◌, ◌<◌, arith, length, map, subst, sym, List, get_or}
 use Rattle.std.proofs.lemmas.List.{length-map}
 use Rattle.dwc_write.specs.declared.abbreviations.Shape.{Shape}
-use Rattle.dwc_write.specs.GivenUnits.{EntryShape, forms_of}
+use Rattle.dwc_unit.specs.GivenUnits.{EntryShape, forms_of}
 use Rattle.dwc_write.specs.ShapeViews.{shape_view}
 use Rattle.dwc_write.proofs.ShapeLaws.{with_use-known}
 use Rattle.dwc_write.proofs.ShapePlaces.{guessed}

@@ -1,5 +1,5 @@
 use Rattle.std.proofs.Common.{◌≡◌, ◌++◌, drop}
-use Rattle.dwc_write.specs.GivenUnits.{forms_of}
+use Rattle.dwc_unit.specs.GivenUnits.{forms_of}
 use Rattle.dwc_write.proofs.abbreviations.push_forms.Given as goal
 
 -- what is there, and what is left to append

@@ -1,6 +1,6 @@
 use Rattle.std.proofs.Common.{◌≡◌, ◌++◌, drop}
 use Rattle.std.specs.List.{flat_map}
-use Rattle.dwc_write.specs.GivenUnits.{form_bytes}
+use Rattle.dwc_unit.specs.GivenUnits.{form_bytes}
 use Rattle.dwc_write.proofs.abbreviations.put_forms.Given as goal
 
 -- what is there, and what is left to append

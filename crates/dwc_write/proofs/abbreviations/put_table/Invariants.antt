@@ -1,7 +1,7 @@
 use Rattle.std.proofs.Common.{◌≡◌, ◌++◌, suc, drop, map}
 use Rattle.std.specs.List.{flat_map}
-use Rattle.dwc_write.specs.SpelledTables.{declaration_bytes}
-use Rattle.dwc_write.specs.GivenUnits.{numbered}
+use Rattle.dwc_unit.specs.SpelledTables.{declaration_bytes}
+use Rattle.dwc_unit.specs.GivenUnits.{numbered}
 use Rattle.dwc_write.specs.ShapeViews.{shape_view}
 use Rattle.dwc_write.proofs.abbreviations.put_table.Given as goal
 

@@ -1,6 +1,6 @@
 use Rattle.std.proofs.Common.{add-one}
 use Rattle.std.proofs.lemmas.Result.{err_from_is_err_and}
-use Rattle.dwc_write.proofs.WritesLaws.{ends-more, ends-refused}
+use Rattle.dwc_section.proofs.WritesLaws.{ends-more, ends-refused}
 use Rattle.dwc_write.proofs.entries.write_ends.Goals as goal
 
 pub loop-preserved : goal.loop-preserved

@@ -1,6 +1,6 @@
 use Rattle.std.proofs.Common.{◌≡◌, [], replicate}
 use Rattle.std.specs.Prelude.{◌-◌}
-use Rattle.dwc_write.specs.Writers.{appended}
+use Rattle.dwc_section.specs.Writers.{appended}
 use Rattle.dwc_write.proofs.entries.write_ends.Given as goal
 
 -- what is there, with the ends that are left, is the whole

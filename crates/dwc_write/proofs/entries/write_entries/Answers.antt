@@ -1,18 +1,18 @@
 use Rattle.std.proofs.Common.{◌≡◌, ℕ, List, ◌∷◌, ◌∙◌, sym, ap, subst, arith, [], suc, add-one, drop, map, length, get_or}
 use Rattle.std.proofs.lemmas.List.{length-map, take_rest}
 use Rattle.std.proofs.lemmas.Result.{err_from_is_err_and}
-use Rattle.dwc_write.specs.SpelledUnits.{entry_bytes, shaped}
+use Rattle.dwc_unit.specs.SpelledUnits.{entry_bytes, shaped}
 use Rattle.dwc_write.specs.SpelledRelocations.{entry_relocations}
-use Rattle.dwc_write.specs.GivenUnits.{GivenEntry, behind_entries, FitsEntry, code_in, first_depth, first_uses, shape_of, shapes_of, written_entries}
-use Rattle.dwc_write.specs.FileOrders.{looked_up}
+use Rattle.dwc_unit.specs.GivenUnits.{GivenEntry, behind_entries, FitsEntry, code_in, first_depth, first_uses, shape_of, shapes_of, written_entries}
+use Rattle.dwc_unit.specs.FileOrders.{looked_up}
 use Rattle.dwc_write.specs.LayoutViews.{spelling_places}
-use Rattle.dwc_write.specs.declared.list_places.ListPlaces.{ListPlaces}
-use Rattle.dwc_write.specs.Writers.{Refuses, appended}
-use Rattle.dwc_write.proofs.WritesLaws.{all-seen, whole-order}
+use Rattle.dwc_unit.specs.declared.lists.ListPlaces.{ListPlaces}
+use Rattle.dwc_section.specs.Writers.{Refuses, appended}
+use Rattle.dwc_section.proofs.WritesLaws.{all-seen, whole-order}
 use Rattle.dwc_write.proofs.EntriesLaws.{code-at, codes-long, entry_with, loop-entries, loop-entries-refused, seen-more}
 use Rattle.dwc_write.proofs.ListPlaces.{within-entries}
-use Rattle.dwc_write.specs.Lists.{AreWithin, behind_attributes}
-use Rattle.dwc_write.proofs.FileOrderLaws.{first_place}
+use Rattle.dwc_unit.specs.Lists.{AreWithin, behind_attributes}
+use Rattle.dwc_unit.proofs.FileOrderLaws.{first_place}
 use Rattle.dwc_write.proofs.entries.write_entries.Goals as goal
 
 pub write_entry-requires-clause-order : goal.write_entry-requires-clause-order

@@ -1,11 +1,11 @@
 use Rattle.std.proofs.Common.{◌≡◌, [], map, drop}
-use Rattle.dwc_write.specs.SpelledUnits.{entry_bytes, shaped}
+use Rattle.dwc_unit.specs.SpelledUnits.{entry_bytes, shaped}
 use Rattle.dwc_write.specs.SpelledRelocations.{entry_relocations}
-use Rattle.dwc_write.specs.GivenUnits.{behind_entries, first_uses, shapes_of, written_entries}
-use Rattle.dwc_write.specs.Lists.{behind_attributes}
-use Rattle.dwc_write.specs.FileOrders.{looked_up}
+use Rattle.dwc_unit.specs.GivenUnits.{behind_entries, first_uses, shapes_of, written_entries}
+use Rattle.dwc_unit.specs.Lists.{behind_attributes}
+use Rattle.dwc_unit.specs.FileOrders.{looked_up}
 use Rattle.dwc_write.specs.LayoutViews.{spelling_places}
-use Rattle.dwc_write.proofs.WritesLaws.{whole}
+use Rattle.dwc_section.proofs.WritesLaws.{whole}
 use Rattle.dwc_write.proofs.entries.write_entries.Given as goal
 
 -- what is there, with the entries that are left, is the whole; the next lists stand behind the others

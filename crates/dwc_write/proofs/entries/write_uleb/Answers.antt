@@ -1,6 +1,6 @@
 use Rattle.std.proofs.Common.{List, [], subst, sym, ℕ}
-use Rattle.dwc_write.specs.Writers.{Writes}
-use Rattle.dwc_write.proofs.ReadNumbers.{uleb_bytes-small}
+use Rattle.dwc_section.specs.Writers.{Writes}
+use Rattle.dwc_section.proofs.ReadNumbers.{uleb_bytes-small}
 use Rattle.dwc_write.proofs.entries.write_uleb.Goals as goal
 
 pub returns-then-value-lt128 : goal.returns-then-value-lt128

@@ -1,6 +1,6 @@
 use Rattle.std.proofs.Common.{◌∙◌, map, length}
 use Rattle.std.proofs.lemmas.Result.{err_from_is_err_and}
-use Rattle.dwc_write.specs.FileOrders.{looked_up}
+use Rattle.dwc_unit.specs.FileOrders.{looked_up}
 use Rattle.dwc_write.specs.LayoutViews.{spelling_places}
 use Rattle.dwc_write.specs.SpelledOutput.{unit_of}
 use Rattle.dwc_write.proofs.UnitBytes.{front, header-length, unit-length, unit-clear, unit-appended}

@@ -1,12 +1,12 @@
 use Rattle.std.proofs.Common.{◌∙◌, add-one, ap, drop, get_or, subst, suc, sym}
 use Rattle.std.proofs.lemmas.Result.{err_from_is_err_and}
-use Rattle.dwc_write.specs.declared.attributes.AttributeValue.TheVariants.{LineProgramRef}
+use Rattle.dwc_unit.specs.declared.attributes.AttributeValue.TheVariants.{LineProgramRef}
 use Rattle.dwc_write.specs.LayoutViews.{spelling_places}
-use Rattle.dwc_write.specs.Lists.{AreWithin, behind_attributes, behind_value}
+use Rattle.dwc_unit.specs.Lists.{AreWithin, behind_attributes, behind_value}
 use Rattle.dwc_write.proofs.EntriesLaws.{next-place, values-done, values-more, values-order, values-refused}
 use Rattle.dwc_write.proofs.ListPlaces.{within-attributes}
 use Rattle.dwc_write.proofs.ListLaws.{drop-more}
-use Rattle.dwc_write.proofs.UnitLaws.{operand-fits}
+use Rattle.dwc_unit.proofs.UnitLaws.{operand-fits}
 use Rattle.dwc_write.proofs.entries.write_values.Goals as goal
 
 pub write_value-requires-clause-order : goal.write_value-requires-clause-order

@@ -1,6 +1,6 @@
 use Rattle.std.proofs.Common.{◌≡◌, drop}
 use Rattle.dwc_write.specs.LayoutViews.{spelling_places}
-use Rattle.dwc_write.specs.Lists.{behind_attributes}
+use Rattle.dwc_unit.specs.Lists.{behind_attributes}
 use Rattle.dwc_write.proofs.EntriesLaws.{values_left}
 use Rattle.dwc_write.proofs.entries.write_values.Given as goal
 

@@ -3,10 +3,10 @@ use Rattle.std.proofs.lemmas.List.{length-map, map-append}
 use Rattle.std.proofs.lemmas.Result.{err_from_is_err_and}
 use Rattle.dwc_base.specs.declared.records.Endian.{Endian}
 use Rattle.dwc_base.specs.declared.records.Endian.TheVariants.{Little}
-use Rattle.dwc_write.specs.GivenUnits.{FitsOrdered, GivenUnit, OrderedUnit, ordered, size_of}
+use Rattle.dwc_unit.specs.GivenUnits.{FitsOrdered, GivenUnit, OrderedUnit, ordered, size_of}
 use Rattle.dwc_write.specs.LayoutViews.{IsLaidOut, places_view}
 use Rattle.dwc_write.specs.SpelledOutput.{IsRefusal}
-use Rattle.dwc_write.specs.WidestGiven.{IsWideRefusal}
+use Rattle.dwc_unit.specs.WidestGiven.{IsWideRefusal}
 use Rattle.dwc_write.proofs.OutputLaws.{all-taken-more}
 use Rattle.dwc_write.proofs.OrderedLaws.{unit-seen}
 use Rattle.dwc_write.proofs.LayoutLaws.{laying-more, laying-past, zip-more}

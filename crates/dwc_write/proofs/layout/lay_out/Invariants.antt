@@ -1,9 +1,9 @@
 use Rattle.std.proofs.Common.{◌≤◌, map, take}
 use Rattle.std.specs.List.{All, AllZip}
 use Rattle.dwc_base.specs.declared.records.Endian.{Endian}
-use Rattle.dwc_write.specs.GivenUnits.{FitsOrdered, ordered}
+use Rattle.dwc_unit.specs.GivenUnits.{FitsOrdered, ordered}
 use Rattle.dwc_write.specs.LayoutViews.{IsLaidOut, places_view}
-use Rattle.dwc_write.specs.Writers.{most_bytes}
+use Rattle.dwc_section.specs.Writers.{most_bytes}
 use Rattle.dwc_write.proofs.LayoutLaws.{IsLaying}
 use Rattle.dwc_write.proofs.layout.lay_out.Given as goal
 

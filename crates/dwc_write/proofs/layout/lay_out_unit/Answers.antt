@@ -4,13 +4,13 @@ use Rattle.std.proofs.lemmas.List.Elements.{All-nil}
 use Rattle.std.proofs.lemmas.Result.{err_from_is_err_and}
 use Rattle.dwc_base.specs.declared.records.Endian.{Endian}
 use Rattle.dwc_base.specs.declared.records.Endian.TheVariants.{Little}
-use Rattle.dwc_write.specs.FileOrders.{looked_up}
-use Rattle.dwc_write.specs.Lists.{no_lists, nowhere}
-use Rattle.dwc_write.specs.GivenUnits.{FitsOrdered, IsPlainShape, GivenEntry, GivenUnit, first_uses, in_file_order, no_places, ordered, shapes_of, written_entries}
+use Rattle.dwc_unit.specs.FileOrders.{looked_up}
+use Rattle.dwc_unit.specs.Lists.{no_lists, nowhere}
+use Rattle.dwc_unit.specs.GivenUnits.{FitsOrdered, IsPlainShape, GivenEntry, GivenUnit, first_uses, in_file_order, no_places, ordered, shapes_of, written_entries}
 use Rattle.dwc_write.specs.Layouts.{UnitPlaces, offsets_by_number, unit_length}
 use Rattle.dwc_write.specs.LayoutViews.{IsTooLong}
-use Rattle.dwc_write.specs.Spelled.{at_places}
-use Rattle.dwc_write.specs.SpelledUnits.{entry_bytes, header_length, shaped}
+use Rattle.dwc_section.specs.Spelled.{at_places}
+use Rattle.dwc_unit.specs.SpelledUnits.{entry_bytes, header_length, shaped}
 use Rattle.dwc_write.proofs.EntriesLaws.{uses-plain}
 use Rattle.dwc_write.proofs.LayoutLaws.{offsets-known, offsets-many, shaped-many}
 use Rattle.dwc_write.proofs.OrderedLaws.{ordered-fits}

@@ -1,6 +1,6 @@
 use Rattle.std.proofs.Common.{◌≡◌, ◌≤◌, ℕ, List, map, drop, get_or, length}
-use Rattle.dwc_write.specs.FileOrders.{looked_up}
-use Rattle.dwc_write.specs.GivenUnits.{Addition}
+use Rattle.dwc_unit.specs.FileOrders.{looked_up}
+use Rattle.dwc_unit.specs.GivenUnits.{Addition}
 use Rattle.dwc_write.specs.Layouts.{offset_among}
 use Rattle.dwc_write.proofs.layout.offsets_by_place.Given as goal
 

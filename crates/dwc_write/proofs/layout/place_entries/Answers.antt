@@ -3,15 +3,15 @@ use Rattle.std.proofs.lemmas.List.{drop_all, take_rest}
 use Rattle.std.proofs.lemmas.Result.{err_from_is_err_and}
 use Rattle.dwc_base.specs.declared.records.Endian.{Endian}
 use Rattle.dwc_base.specs.declared.records.Endian.TheVariants.{Little}
-use Rattle.dwc_write.specs.SpelledUnits.{entry_bytes, header_length}
-use Rattle.dwc_write.specs.GivenUnits.{GivenEntry, first_depth, no_places, shape_of, with_use}
-use Rattle.dwc_write.specs.FileOrders.{looked_up}
+use Rattle.dwc_unit.specs.SpelledUnits.{entry_bytes, header_length}
+use Rattle.dwc_unit.specs.GivenUnits.{GivenEntry, first_depth, no_places, shape_of, with_use}
+use Rattle.dwc_unit.specs.FileOrders.{looked_up}
 use Rattle.dwc_write.specs.LayoutViews.{AdvancesOrMemory}
-use Rattle.dwc_write.specs.Lists.{no_lists, nowhere}
+use Rattle.dwc_unit.specs.Lists.{no_lists, nowhere}
 use Rattle.dwc_write.specs.ShapeViews.{shape_view}
 use Rattle.dwc_write.proofs.LayoutLaws.{advance-free}
 use Rattle.dwc_write.proofs.EntriesLaws.{entry_with, seen-more, step-more, step-refused}
-use Rattle.dwc_write.proofs.FileOrderLaws.{first_place}
+use Rattle.dwc_unit.proofs.FileOrderLaws.{first_place}
 use Rattle.dwc_write.proofs.NotedLaws.{noting-done, noting-more}
 use Rattle.dwc_write.proofs.ShapePlaces.{own-more}
 use Rattle.dwc_write.proofs.layout.place_entries.Goals as goal

@@ -1,14 +1,14 @@
 use Rattle.std.proofs.Common.{◌+◌, ◌≤◌, [], ◌∷◌, map, drop, length}
 use Rattle.std.specs.List.{flat_map}
 use Rattle.dwc_base.specs.declared.records.Endian.{Endian}
-use Rattle.dwc_write.specs.FileOrders.{looked_up}
-use Rattle.dwc_write.specs.GivenUnits.{AreOwn, first_uses, no_places, shapes_of, written_entries}
+use Rattle.dwc_unit.specs.FileOrders.{looked_up}
+use Rattle.dwc_unit.specs.GivenUnits.{AreOwn, first_uses, no_places, shapes_of, written_entries}
 use Rattle.dwc_write.specs.Layouts.{codes_of}
-use Rattle.dwc_write.specs.Lists.{no_lists, nowhere}
+use Rattle.dwc_unit.specs.Lists.{no_lists, nowhere}
 use Rattle.dwc_write.specs.ShapeViews.{shape_view}
-use Rattle.dwc_write.specs.Spelled.{at_places}
-use Rattle.dwc_write.specs.SpelledUnits.{entry_bytes, header_length, shaped}
-use Rattle.dwc_write.specs.Writers.{most_bytes}
+use Rattle.dwc_section.specs.Spelled.{at_places}
+use Rattle.dwc_unit.specs.SpelledUnits.{entry_bytes, header_length, shaped}
+use Rattle.dwc_section.specs.Writers.{most_bytes}
 use Rattle.dwc_write.proofs.EntriesLaws.{IsStep}
 use Rattle.dwc_write.proofs.NotedLaws.{IsNotingOn}
 use Rattle.dwc_write.proofs.layout.place_entries.Given as goal

@@ -1,5 +1,5 @@
 use Rattle.std.proofs.Common.{◌≡◌, ap, ◌∙◌, arith, add-one, get_or}
-use Rattle.dwc_write.specs.Lists.{held_length}
+use Rattle.dwc_unit.specs.Lists.{held_length}
 use Rattle.dwc_write.proofs.ListPlaces.{listed-more}
 use Rattle.dwc_write.proofs.list_places.behind_list.Goals as goal
 

@@ -1,5 +1,5 @@
 use Rattle.std.proofs.Common.{◌≡◌, ◌+◌, drop, map}
-use Rattle.dwc_write.specs.Lists.{ended, list_length}
+use Rattle.dwc_unit.specs.Lists.{ended, list_length}
 use Rattle.dwc_write.proofs.list_places.behind_list.Given as goal
 
 -- behind the entries that are left, with the end, stands what stands behind all

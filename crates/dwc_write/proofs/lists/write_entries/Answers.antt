@@ -1,9 +1,9 @@
 use Rattle.std.proofs.Common.{◌≡◌, add-one, ap, refl, sym, ◌∙◌, subst, length, Option, List, ℕ}
 use Rattle.std.proofs.lemmas.Result.{err_from_is_err_and}
 use Rattle.dwc_base.specs.declared.records.Address.{Address}
-use Rattle.dwc_write.specs.Lists.{ListEntry, FitsListed, listed_bytes, listed_relocations}
-use Rattle.dwc_write.specs.Writers.{Refuses, appended}
-use Rattle.dwc_write.proofs.WritesLaws.{all-seen, loop-done, loop-more, loop-refused}
+use Rattle.dwc_unit.specs.Lists.{ListEntry, FitsListed, listed_bytes, listed_relocations}
+use Rattle.dwc_section.specs.Writers.{Refuses, appended}
+use Rattle.dwc_section.proofs.WritesLaws.{all-seen, loop-done, loop-more, loop-refused}
 use Rattle.dwc_write.proofs.lists.write_entries.Goals as goal
 
 -- an entry by what its parts are

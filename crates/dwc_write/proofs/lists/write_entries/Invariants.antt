@@ -1,6 +1,6 @@
 use Rattle.std.proofs.Common.{◌≡◌, drop, map}
-use Rattle.dwc_write.specs.Lists.{listed_bytes, listed_relocations}
-use Rattle.dwc_write.proofs.WritesLaws.{whole}
+use Rattle.dwc_unit.specs.Lists.{listed_bytes, listed_relocations}
+use Rattle.dwc_section.proofs.WritesLaws.{whole}
 use Rattle.dwc_write.proofs.lists.write_entries.Given as goal
 
 -- what is there, with the entries that are left, is the whole

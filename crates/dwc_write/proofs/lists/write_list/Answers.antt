@@ -1,5 +1,5 @@
 use Rattle.std.proofs.Common.{map}
-use Rattle.dwc_write.specs.Lists.{list_end}
+use Rattle.dwc_unit.specs.Lists.{list_end}
 use Rattle.dwc_write.proofs.ListLaws.{entry-behind}
 use Rattle.dwc_write.proofs.lists.write_list.Goals as goal
 

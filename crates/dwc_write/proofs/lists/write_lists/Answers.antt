@@ -2,13 +2,13 @@ use Rattle.std.proofs.Common.{◌≡◌, ◌<◌, add-one, arith, length, map, s
 use Rattle.std.specs.List.{All}
 use Rattle.std.proofs.lemmas.List.{get_or-map, length-map}
 use Rattle.std.proofs.lemmas.Result.{err_from_is_err_and}
-use Rattle.dwc_write.specs.FileOrders.{looked_up}
-use Rattle.dwc_write.specs.GivenUnits.{GivenEntry}
-use Rattle.dwc_write.specs.Lists.{FitsListed, list_bytes, list_relocations, lists_by, lists_of_attributes}
-use Rattle.dwc_write.specs.Writers.{Refuses, appended}
-use Rattle.dwc_write.proofs.FileOrderLaws.{first_place}
+use Rattle.dwc_unit.specs.FileOrders.{looked_up}
+use Rattle.dwc_unit.specs.GivenUnits.{GivenEntry}
+use Rattle.dwc_unit.specs.Lists.{FitsListed, list_bytes, list_relocations, lists_by, lists_of_attributes}
+use Rattle.dwc_section.specs.Writers.{Refuses, appended}
+use Rattle.dwc_unit.proofs.FileOrderLaws.{first_place}
 use Rattle.dwc_write.proofs.ListLaws.{lists-done, lists-more, lists-refused}
-use Rattle.dwc_write.proofs.ReadValues.{all-of-part}
+use Rattle.dwc_unit.proofs.ReadValues.{all-of-part}
 use Rattle.dwc_write.proofs.lists.write_lists.Goals as goal
 
 pub write_lists_of-requires-clause-fits : goal.write_lists_of-requires-clause-fits

@@ -1,7 +1,7 @@
 use Rattle.std.proofs.Common.{◌≡◌, drop, map}
-use Rattle.dwc_write.specs.FileOrders.{looked_up}
-use Rattle.dwc_write.specs.GivenUnits.{lists_of_entries}
-use Rattle.dwc_write.specs.Lists.{lists_by}
+use Rattle.dwc_unit.specs.FileOrders.{looked_up}
+use Rattle.dwc_unit.specs.GivenUnits.{lists_of_entries}
+use Rattle.dwc_unit.specs.Lists.{lists_by}
 use Rattle.dwc_write.proofs.ListLaws.{lists_whole}
 use Rattle.dwc_write.proofs.lists.write_lists.Given as goal
 

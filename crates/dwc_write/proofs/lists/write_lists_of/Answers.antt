@@ -1,10 +1,10 @@
 use Rattle.std.proofs.Common.{add-one}
 use Rattle.std.proofs.lemmas.Result.{err_from_is_err_and}
-use Rattle.dwc_write.specs.declared.attributes.Attribute.{Attribute}
-use Rattle.dwc_write.specs.declared.attributes.AttributeValue.TheVariants.{LineProgramRef}
-use Rattle.dwc_write.specs.Lists.{FitsListed, lists_by}
+use Rattle.dwc_unit.specs.declared.attributes.Attribute.{Attribute}
+use Rattle.dwc_unit.specs.declared.attributes.AttributeValue.TheVariants.{LineProgramRef}
+use Rattle.dwc_unit.specs.Lists.{FitsListed, lists_by}
 use Rattle.dwc_write.proofs.ListLaws.{lists-done, lists-more, lists-refused}
-use Rattle.dwc_write.proofs.ReadValues.{all-of-part}
+use Rattle.dwc_unit.proofs.ReadValues.{all-of-part}
 use Rattle.dwc_write.proofs.lists.write_lists_of.Goals as goal
 
 pub write_list_of-requires-clause-fits : goal.write_list_of-requires-clause-fits

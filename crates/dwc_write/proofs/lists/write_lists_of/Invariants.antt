@@ -1,5 +1,5 @@
 use Rattle.std.proofs.Common.{◌≡◌, drop}
-use Rattle.dwc_write.specs.Lists.{lists_by, lists_of_attributes}
+use Rattle.dwc_unit.specs.Lists.{lists_by, lists_of_attributes}
 use Rattle.dwc_write.proofs.ListLaws.{lists_whole}
 use Rattle.dwc_write.proofs.lists.write_lists_of.Given as goal
 

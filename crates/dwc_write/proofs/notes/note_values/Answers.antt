@@ -1,6 +1,6 @@
 use Rattle.std.proofs.Common.{refl, arith, add-one}
-use Rattle.dwc_write.specs.declared.lists.ListKind.TheVariants.{Locations, Ranges}
-use Rattle.dwc_write.specs.SpelledUnits.{attribute_bytes}
+use Rattle.dwc_unit.specs.declared.lists.ListKind.TheVariants.{Locations, Ranges}
+use Rattle.dwc_unit.specs.SpelledUnits.{attribute_bytes}
 use Rattle.dwc_write.proofs.LayoutLaws.{unplaced-more}
 use Rattle.dwc_write.proofs.NotedLaws.{free-all, free-more, named-more}
 use Rattle.dwc_write.proofs.notes.note_values.Goals as goal

@@ -2,13 +2,13 @@ use Rattle.std.proofs.Common.{◌≡◌, ◌+◌, ◌++◌, ◌≤◌, drop, len
 use Rattle.std.specs.Prelude.{◌&&◌}
 use Rattle.std.specs.List.{flat_map}
 use Rattle.dwc_base.specs.declared.records.Endian.{Endian}
-use Rattle.dwc_write.specs.SpelledUnits.{attribute_bytes}
-use Rattle.dwc_write.specs.GivenUnits.{no_places, written_attributes}
-use Rattle.dwc_write.specs.Lists.{no_lists, nowhere}
-use Rattle.dwc_write.specs.declared.lists.ListKind.TheVariants.{Locations, Ranges}
+use Rattle.dwc_unit.specs.SpelledUnits.{attribute_bytes}
+use Rattle.dwc_unit.specs.GivenUnits.{no_places, written_attributes}
+use Rattle.dwc_unit.specs.Lists.{no_lists, nowhere}
+use Rattle.dwc_unit.specs.declared.lists.ListKind.TheVariants.{Locations, Ranges}
 use Rattle.dwc_write.specs.Noted.{are_free}
-use Rattle.dwc_write.specs.UsedTexts.{texts_of_attributes}
-use Rattle.dwc_write.specs.Writers.{most_bytes}
+use Rattle.dwc_unit.specs.UsedTexts.{texts_of_attributes}
+use Rattle.dwc_section.specs.Writers.{most_bytes}
 use Rattle.dwc_write.proofs.notes.note_values.Given as goal
 
 -- what is noted so far, with what is to be noted of the rest, is that of all, and the values that are left end where all end

@@ -1,7 +1,7 @@
 use Rattle.std.proofs.Common.{[]}
 use Rattle.std.proofs.lemmas.List.{map-append}
 use Rattle.std.proofs.lemmas.List.Elements.{All-append, All-cons, All-nil}
-use Rattle.dwc_write.specs.Writers.{IsSound}
+use Rattle.dwc_section.specs.Writers.{IsSound}
 use Rattle.dwc_write.proofs.sections.push_section.Goals as goal
 
 pub returns-clause-sound : goal.returns-clause-sound

@@ -2,15 +2,15 @@ use Rattle.std.proofs.Common.{◌≡◌, ◌∙◌, List, ap, length, map, refl,
 use Rattle.std.specs.List.{All}
 use Rattle.std.proofs.lemmas.Result.{err_from_is_err_and}
 use Rattle.dwc_write.specs.declared.layout.UnitLayout.{UnitLayout}
-use Rattle.dwc_write.specs.FileOrders.{looked_up}
-use Rattle.dwc_write.specs.GivenUnits.{GivenEntry, GivenUnit, FitsEntry, FitsOrdered, HaveShortLists, behind_entries, in_file_order, ordered}
+use Rattle.dwc_unit.specs.FileOrders.{looked_up}
+use Rattle.dwc_unit.specs.GivenUnits.{GivenEntry, GivenUnit, FitsEntry, FitsOrdered, HaveShortLists, behind_entries, in_file_order, ordered}
 use Rattle.dwc_write.specs.LayoutViews.{IsLaidOut, IsNoting, whole_view}
 use Rattle.dwc_write.specs.Layouts.{offsets_by_number, written_lines}
-use Rattle.dwc_write.specs.GivenLines.{GivenLines}
-use Rattle.dwc_write.specs.Lists.{AreWithin}
+use Rattle.dwc_unit.specs.GivenLines.{GivenLines}
+use Rattle.dwc_unit.specs.Lists.{AreWithin}
 use Rattle.dwc_write.specs.SpelledRelocations.{lines_relocations}
 use Rattle.dwc_write.specs.SpelledSections.{lines_bytes}
-use Rattle.dwc_write.specs.Writers.{appended}
+use Rattle.dwc_section.specs.Writers.{appended}
 use Rattle.dwc_write.specs.SectionViews.{sections_view}
 use Rattle.dwc_write.specs.SpelledOutput.{WritesOne}
 use Rattle.dwc_write.proofs.OrderedLaws.{ordered-fits}

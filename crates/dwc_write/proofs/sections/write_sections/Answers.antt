@@ -6,11 +6,11 @@ use Rattle.dwc_output.specs.FramesCarried.{FramesCarried, others_in}
 use Rattle.dwc_output.specs.FrameSections.{frame_section_if}
 use Rattle.dwc_output.specs.OutputForm.{HasDistinctNames}
 use Rattle.dwc_base.specs.Outputs.{OutputSection, output_sections, section_view}
-use Rattle.dwc_write.specs.Frames.{common_given, descriptions_given, optional_section}
-use Rattle.dwc_write.specs.GivenTrees.{given_trees}
-use Rattle.dwc_write.specs.GivenUnits.{ordered, size_of}
-use Rattle.dwc_write.specs.SpelledRelocations.{DoRelocationsRise}
-use Rattle.dwc_write.specs.Writers.{IsSound}
+use Rattle.dwc_frames.specs.Frames.{common_given, descriptions_given, optional_section}
+use Rattle.dwc_unit.specs.GivenTrees.{given_trees}
+use Rattle.dwc_unit.specs.GivenUnits.{ordered, size_of}
+use Rattle.dwc_section.specs.RisingRelocations.{DoRelocationsRise}
+use Rattle.dwc_section.specs.Writers.{IsSound}
 use Rattle.dwc_write.proofs.FramesBehind.{back-same, distinct-with, form-same, frames-carried, others-with, read-same, relocated-with, texts-same, trees-same}
 use Rattle.dwc_write.proofs.OutputForms.{IsOther, all-others}
 use Rattle.dwc_write.proofs.sections.write_sections.Goals as goal

@@ -1,8 +1,8 @@
 use Rattle.std.proofs.Common.{List, subst, sym}
 use Rattle.std.specs.List.{All}
 use Rattle.std.proofs.lemmas.Result.{err_from_is_err_and}
-use Rattle.dwc_write.specs.declared.lists.ListKind.TheVariants.{Locations, Ranges}
-use Rattle.dwc_write.specs.Lists.{FitsListed, ListEntry}
+use Rattle.dwc_unit.specs.declared.lists.ListKind.TheVariants.{Locations, Ranges}
+use Rattle.dwc_unit.specs.Lists.{FitsListed, ListEntry}
 use Rattle.dwc_write.proofs.ListsFit.{locations-fit, ranges-fit}
 use Rattle.dwc_write.proofs.NotedLaws.{noted-lists}
 use Rattle.dwc_write.proofs.OutputLaws.{lists-written, ranges-refused}

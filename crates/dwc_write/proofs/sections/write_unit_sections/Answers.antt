@@ -7,29 +7,29 @@ use Rattle.dwc_output.specs.OutputForm.{HasDistinctNames}
 use Rattle.dwc_base.specs.Outputs.{OutputSection, output_sections, section_view}
 use Rattle.dwc_dwarf.specs.TreeLaws.{HasTextsOnce, have_short_expressions}
 use Rattle.dwc_output.specs.TreeReading.{CarriesTrees}
-use Rattle.dwc_write.specs.declared.error.WriteError.TheVariants.{OutOfMemory}
-use Rattle.dwc_write.specs.GivenTrees.{given_trees}
+use Rattle.dwc_section.specs.declared.error.WriteError.TheVariants.{OutOfMemory}
+use Rattle.dwc_unit.specs.GivenTrees.{given_trees}
 use Rattle.dwc_write.specs.ReadBack.{ReadsBack}
 use Rattle.dwc_write.specs.SpelledOutput.{WrittenSections, sections_of}
-use Rattle.dwc_write.specs.SpelledRelocations.{DoRelocationsRise}
-use Rattle.dwc_write.specs.GivenUnits.{OrderedUnit, ordered, size_of}
+use Rattle.dwc_section.specs.RisingRelocations.{DoRelocationsRise}
+use Rattle.dwc_unit.specs.GivenUnits.{OrderedUnit, ordered, size_of}
 use Rattle.dwc_base.specs.declared.section_name.SectionName.TheVariants.{Str}
-use Rattle.dwc_write.specs.Writers.{IsSound, Writing, most_bytes}
-use Rattle.dwc_write.specs.declared.error.WriteError.{WriteError}
+use Rattle.dwc_section.specs.Writers.{IsSound, Writing, most_bytes}
+use Rattle.dwc_section.specs.declared.error.WriteError.{WriteError}
 use Rattle.dwc_write.specs.declared.layout.UnitLayout.{UnitLayout}
 use Rattle.dwc_base.specs.declared.records.Endian.{Endian}
 use Rattle.dwc_write.specs.Layouts.{places_of_units}
 use Rattle.dwc_write.specs.LayoutViews.{IsLaidOut, places_view, whole_view}
 use Rattle.dwc_write.specs.SpelledOutput.{IsRefusal, all_places, all_units, section_bytes}
-use Rattle.dwc_write.specs.TextTables.{AreTexts}
+use Rattle.dwc_unit.specs.TextTables.{AreTexts}
 use Rattle.dwc_write.specs.TextViews.{IsTextLayout}
-use Rattle.dwc_write.specs.UsedTexts.{texts_bytes, texts_named, texts_used, with_numbers}
-use Rattle.dwc_write.specs.WidestGiven.{IsWideRefusal}
+use Rattle.dwc_unit.specs.UsedTexts.{texts_bytes, texts_named, texts_used, with_numbers}
+use Rattle.dwc_unit.specs.WidestGiven.{IsWideRefusal}
 use Rattle.dwc_write.proofs.ReadTexts.{all-placed, laid-short, text-places-are}
 use Rattle.dwc_write.proofs.SaidTexts.{texts-widely}
 use Rattle.dwc_write.proofs.TextsOnce.{texts-once}
 use Rattle.dwc_write.proofs.WideLaws.{err-exit}
-use Rattle.dwc_write.proofs.RefusalLaws.{memory-refusal, none-for-expressions, past-among, size-refusal}
+use Rattle.dwc_section.proofs.RefusalLaws.{memory-refusal, none-for-expressions, past-among, size-refusal}
 use Rattle.dwc_write.proofs.OutputLaws.{all-appended, refusal-of-all, if-ok-both, if-ok-weaker, output-sections, sections-rise}
 use Rattle.dwc_write.proofs.OutputForms.{distinct-names}
 use Rattle.dwc_write.proofs.ReadBackLaws.{reads-back}

@@ -1,13 +1,13 @@
 use Rattle.std.proofs.Common.{◌≡◌, ℕ, List, ◌<◌, ◌≤◌, ap, sym, subst, ◌∙◌, arith, length, map, add-one, get_or}
 use Rattle.std.proofs.lemmas.List.{length-map}
 use Rattle.std.proofs.lemmas.Result.{err_from_is_err_and}
-use Rattle.dwc_write.specs.GivenLines.{FitsLines}
-use Rattle.dwc_write.specs.GivenUnits.{GivenUnit, OrderedUnit, FitsOrdered, HaveShortLists, ordered, size_of}
+use Rattle.dwc_unit.specs.GivenLines.{FitsLines}
+use Rattle.dwc_unit.specs.GivenUnits.{GivenUnit, OrderedUnit, FitsOrdered, HaveShortLists, ordered, size_of}
 use Rattle.dwc_write.specs.SpelledOutput.{IsRefusalAmong, WrittenSections, with_unit}
 use Rattle.dwc_write.specs.LayoutViews.{IsLaidOut, whole_view}
 use Rattle.dwc_write.specs.Layouts.{offsets_by_number}
-use Rattle.dwc_write.specs.WidestGiven.{IsWideRefusal}
-use Rattle.dwc_write.proofs.AddedInOrder.{drop-behind, drop-head, drop-within}
+use Rattle.dwc_unit.specs.WidestGiven.{IsWideRefusal}
+use Rattle.dwc_unit.proofs.AddedInOrder.{drop-behind, drop-head, drop-within}
 use Rattle.dwc_write.proofs.LayoutLaws.{offsets-at, unit-within, zip-at, zip-long}
 use Rattle.dwc_write.proofs.PlacedEntries.{offset-within, places-short}
 use Rattle.dwc_write.proofs.OutputLaws.{units-more, units-refused, all-taken-more, all-taken, units-done}

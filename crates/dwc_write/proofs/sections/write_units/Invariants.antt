@@ -1,7 +1,7 @@
 use Rattle.std.proofs.Common.{◌≡◌, ◌+◌, drop, length, map, take}
 use Rattle.std.specs.List.{All}
-use Rattle.dwc_write.specs.GivenLines.{FitsLines}
-use Rattle.dwc_write.specs.GivenUnits.{OrderedUnit, FitsOrdered, ordered}
+use Rattle.dwc_unit.specs.GivenLines.{FitsLines}
+use Rattle.dwc_unit.specs.GivenUnits.{OrderedUnit, FitsOrdered, ordered}
 use Rattle.dwc_write.specs.LayoutViews.{whole_view}
 use Rattle.dwc_write.specs.SpelledOutput.{all_units, with_units}
 use Rattle.dwc_write.specs.SectionViews.{sections_view}

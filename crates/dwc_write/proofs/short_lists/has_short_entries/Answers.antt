@@ -1,5 +1,5 @@
 use Rattle.std.proofs.Common.{◌∙◌, ap}
-use Rattle.dwc_write.specs.GivenUnits.{ordered}
+use Rattle.dwc_unit.specs.GivenUnits.{ordered}
 use Rattle.dwc_write.specs.ShortLists.{is_short_unit}
 use Rattle.dwc_write.proofs.ShortLaws.{order-short}
 use Rattle.dwc_write.proofs.short_lists.has_short_entries.Goals as goal

@@ -1,5 +1,5 @@
 use Rattle.std.proofs.Common.{arith}
-use Rattle.dwc_write.proofs.NameLaws.{files-more}
+use Rattle.dwc_unit.proofs.NameLaws.{files-more}
 use Rattle.dwc_write.proofs.tables.put_files.Goals as goal
 
 pub loop-i-preserved : goal.loop-i-preserved

@@ -1,6 +1,6 @@
 use Rattle.std.proofs.Common.{◌≡◌, ◌++◌, drop}
 use Rattle.std.specs.List.{flat_map}
-use Rattle.dwc_write.specs.SpelledLines.{file_bytes}
+use Rattle.dwc_unit.specs.SpelledLines.{file_bytes}
 use Rattle.dwc_write.proofs.tables.put_files.Given as goal
 
 -- what is there, and what is left to append

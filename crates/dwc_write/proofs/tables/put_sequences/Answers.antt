@@ -1,9 +1,9 @@
 use Rattle.std.proofs.Common.{add-one}
 use Rattle.std.proofs.lemmas.Result.{err_from_is_err_and}
 use Rattle.dwc_write.specs.SpelledRelocations.{sequence_bytes, sequence_relocations}
-use Rattle.dwc_write.specs.GivenLines.{FitsGivenSequence}
-use Rattle.dwc_write.specs.LineViews.{sequence_view}
-use Rattle.dwc_write.proofs.WritesLaws.{all-seen, loop-more, loop-refused, loop-done}
+use Rattle.dwc_unit.specs.GivenLines.{FitsGivenSequence}
+use Rattle.dwc_unit.specs.LineViews.{sequence_view}
+use Rattle.dwc_section.proofs.WritesLaws.{all-seen, loop-more, loop-refused, loop-done}
 use Rattle.dwc_write.proofs.tables.put_sequences.Goals as goal
 
 pub write_sequence-requires-clause-fits : goal.write_sequence-requires-clause-fits

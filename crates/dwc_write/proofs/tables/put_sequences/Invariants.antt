@@ -1,7 +1,7 @@
 use Rattle.std.proofs.Common.{◌≡◌, drop, map}
 use Rattle.dwc_write.specs.SpelledRelocations.{sequence_bytes, sequence_relocations}
-use Rattle.dwc_write.specs.LineViews.{sequence_view}
-use Rattle.dwc_write.proofs.WritesLaws.{whole}
+use Rattle.dwc_unit.specs.LineViews.{sequence_view}
+use Rattle.dwc_section.proofs.WritesLaws.{whole}
 use Rattle.dwc_write.proofs.tables.put_sequences.Given as goal
 
 -- what is there, with the sequences that are left, is the whole

@@ -1,14 +1,14 @@
 use Rattle.std.proofs.Common.{◌≡◌, ℕ, ap, sym, ◌∙◌, arith, List, [], map, length}
 use Rattle.std.proofs.lemmas.Result.{err_from_is_err_and}
 use Rattle.dwc_dwarf.specs.LineHeaders.{LineFile}
-use Rattle.dwc_write.specs.declared.lines.Sequence.{Sequence}
-use Rattle.dwc_write.specs.SpelledLines.{line_fields_bytes}
+use Rattle.dwc_unit.specs.declared.lines.Sequence.{Sequence}
+use Rattle.dwc_unit.specs.SpelledLines.{line_fields_bytes}
 use Rattle.dwc_write.specs.SpelledSections.{WrittenTable, lines_bytes}
 use Rattle.dwc_write.specs.SpelledRelocations.{lines_relocations}
-use Rattle.dwc_write.specs.LineViews.{sequence_view}
-use Rattle.dwc_write.specs.Writers.{appended}
+use Rattle.dwc_unit.specs.LineViews.{sequence_view}
+use Rattle.dwc_section.specs.Writers.{appended}
 use Rattle.dwc_write.proofs.TableLaws.{front, program-table, table-clear, table-length, table-appended}
-use Rattle.dwc_write.proofs.WritesLaws.{exit-refused}
+use Rattle.dwc_section.proofs.WritesLaws.{exit-refused}
 use Rattle.dwc_write.proofs.tables.write_lines.Goals as goal
 
 -- the table of the program's fields

@@ -1,10 +1,10 @@
 use Rattle.std.proofs.Common.{ap, sym, ◌∙◌, ◌+◌, append-nil, [], ◌∷◌, ◌++◌, length}
-use Rattle.dwc_write.specs.SpelledAddresses.{address_bytes}
+use Rattle.dwc_section.specs.SpelledAddresses.{address_bytes}
 use Rattle.std.proofs.lemmas.Result.{err_from_is_err_and}
-use Rattle.dwc_write.specs.LineViews.{sequence_view}
-use Rattle.dwc_write.specs.Writers.{address_relocations}
+use Rattle.dwc_unit.specs.LineViews.{sequence_view}
+use Rattle.dwc_section.specs.Writers.{address_relocations}
 use Rattle.dwc_write.proofs.SequenceLaws.{sequence-bytes, sequence-relocations, size-small, sequence-front}
-use Rattle.dwc_write.proofs.WritesLaws.{first-refused, writes-then}
+use Rattle.dwc_section.proofs.WritesLaws.{first-refused, writes-then}
 use Rattle.dwc_write.proofs.tables.write_sequence.Goals as goal
 
 pub returns-in_err-write_start : goal.returns-in_err-write_start

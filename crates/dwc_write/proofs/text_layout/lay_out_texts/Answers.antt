@@ -1,7 +1,7 @@
 use Rattle.std.proofs.Common.{refl, length, ◌<◌}
 use Rattle.std.proofs.lemmas.Result.{err_from_is_err_and}
 use Rattle.dwc_write.specs.declared.layout.UnitLayout.{UnitLayout}
-use Rattle.dwc_write.proofs.ReadValues.{all-of-part}
+use Rattle.dwc_unit.proofs.ReadValues.{all-of-part}
 use Rattle.dwc_write.proofs.TextLaws.{refused-here, option-cases, using-refused, using-start}
 use Rattle.dwc_write.proofs.text_layout.lay_out_texts.Goals as goal
 

@@ -1,10 +1,10 @@
 use Rattle.std.proofs.Common.{◌≡◌, ℕ, ◌++◌, ◌∷◌, [], List, ap, subst, ◌∙◌, add-one, map, length, get_or}
 use Rattle.std.proofs.lemmas.Result.{err_from_is_err_and}
-use Rattle.dwc_write.specs.UsedTexts.{text_numbered, texts_bytes}
-use Rattle.dwc_write.specs.Writers.{Refuses, appended}
+use Rattle.dwc_unit.specs.UsedTexts.{text_numbered, texts_bytes}
+use Rattle.dwc_section.specs.Writers.{Refuses, appended}
 use Rattle.dwc_write.proofs.TextLaws.{nothing-there}
-use Rattle.dwc_write.proofs.TextSets.{text-found}
-use Rattle.dwc_write.proofs.WritesLaws.{loop-more, loop-refused, loop-done}
+use Rattle.dwc_unit.proofs.TextSets.{text-found}
+use Rattle.dwc_section.proofs.WritesLaws.{loop-more, loop-refused, loop-done}
 use Rattle.dwc_write.proofs.text_layout.put_texts.Goals as goal
 
 pub loop-i-preserved : goal.loop-i-preserved

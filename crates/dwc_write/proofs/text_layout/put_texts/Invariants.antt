@@ -1,6 +1,6 @@
 use Rattle.std.proofs.Common.{◌≡◌, ◌++◌, ◌∷◌, [], map, drop}
-use Rattle.dwc_write.specs.UsedTexts.{text_numbered}
-use Rattle.dwc_write.proofs.WritesLaws.{whole}
+use Rattle.dwc_unit.specs.UsedTexts.{text_numbered}
+use Rattle.dwc_section.proofs.WritesLaws.{whole}
 use Rattle.dwc_write.proofs.text_layout.put_texts.Given as goal
 
 -- what is there, with the texts that are left, is the whole

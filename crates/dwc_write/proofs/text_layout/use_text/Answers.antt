@@ -1,11 +1,11 @@
 use Rattle.std.proofs.Common.{◌≡◌, ℕ, ◌+◌, ◌<◌, ◌++◌, ◌∷◌, [], List, refl, ap, sym, ◌∙◌, true, false, arith, length}
 use Rattle.std.proofs.lemmas.Result.{err_from_is_err_and}
 use Rattle.std.specs.Prelude.{is_some}
-use Rattle.dwc_write.specs.GivenUnits.{place_of}
-use Rattle.dwc_write.specs.UsedTexts.{text_numbered}
-use Rattle.dwc_write.proofs.UnitLaws.{place_get}
+use Rattle.dwc_unit.specs.GivenUnits.{place_of}
+use Rattle.dwc_unit.specs.UsedTexts.{text_numbered}
+use Rattle.dwc_unit.proofs.UnitLaws.{place_get}
 use Rattle.dwc_write.proofs.TextLaws.{behind-refused, number-known, text-placed, text-refused, using-exit}
-use Rattle.dwc_write.proofs.TextSets.{text-found}
+use Rattle.dwc_unit.proofs.TextSets.{text-found}
 use Rattle.dwc_write.proofs.text_layout.use_text.Goals as goal
 
 pub returns-then-is_some : goal.returns-then-is_some

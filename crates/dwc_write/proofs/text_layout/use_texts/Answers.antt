@@ -1,7 +1,7 @@
 use Rattle.std.proofs.Common.{◌≡◌, subst, ℕ, List, [], ◌∷◌}
 use Rattle.std.proofs.lemmas.Result.{err_from_is_err_and}
 use Rattle.dwc_write.specs.TextViews.{IsTextLayout, UsesTexts}
-use Rattle.dwc_write.specs.UsedTexts.{with_numbers}
+use Rattle.dwc_unit.specs.UsedTexts.{with_numbers}
 use Rattle.dwc_write.proofs.TextLaws.{one-by-one, using-done, using-exit, using-refused}
 use Rattle.dwc_write.proofs.text_layout.use_texts.Goals as goal
 

@@ -1,5 +1,5 @@
 use Rattle.std.proofs.Common.{ap, refl}
-use Rattle.dwc_base.proofs.Steps.{part_at-short, part_at-whole}
+use Rattle.dwc_base.proofs.ReadSteps.{part_at-short, part_at-whole}
 use Rattle.dwc_base.proofs.cursor.Cursor.part.Goals as goal
 
 pub returns-then-self-n : goal.returns-then-self-n

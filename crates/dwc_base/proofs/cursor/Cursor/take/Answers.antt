@@ -1,5 +1,5 @@
 use Rattle.std.proofs.Common.{ap, refl}
-use Rattle.dwc_base.proofs.Steps.{bytes_at-short, bytes_at-whole}
+use Rattle.dwc_base.proofs.ReadSteps.{bytes_at-short, bytes_at-whole}
 use Rattle.dwc_base.proofs.cursor.Cursor.take.Goals as goal
 
 pub returns-then-self-n-clause-read : goal.returns-then-self-n-clause-read

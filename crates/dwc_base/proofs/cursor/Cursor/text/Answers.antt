@@ -1,5 +1,5 @@
 use Rattle.std.proofs.Common.{ap, sym, refl}
-use Rattle.dwc_base.proofs.Steps.{text_at-none, text_at-some}
+use Rattle.dwc_base.proofs.ReadSteps.{text_at-none, text_at-some}
 use Rattle.dwc_base.proofs.cursor.Cursor.text.Goals as goal
 
 pub returns-in_default : goal.returns-in_default

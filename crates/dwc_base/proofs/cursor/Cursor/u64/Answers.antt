@@ -1,6 +1,6 @@
 use Rattle.std.proofs.Common.{sym, ap, ◌∙◌}
 use Rattle.std.proofs.lemmas.Result.{err_from_is_err_and}
-use Rattle.dwc_base.proofs.Steps.{number_at-no_bytes, eight-little, eight-big}
+use Rattle.dwc_base.proofs.ReadSteps.{number_at-no_bytes, eight-little, eight-big}
 use Rattle.dwc_base.proofs.cursor.Cursor.u64.Goals as goal
 
 pub returns-in_err-field : goal.returns-in_err-field

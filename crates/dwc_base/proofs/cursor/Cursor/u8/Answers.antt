@@ -1,6 +1,6 @@
 use Rattle.std.proofs.Common.{ap, ◌∙◌, Ok}
 use Rattle.std.proofs.lemmas.Result.{err_from_is_err_and}
-use Rattle.dwc_base.proofs.Steps.{number_at-from_bytes, number_at-no_bytes, number-byte}
+use Rattle.dwc_base.proofs.ReadSteps.{number_at-from_bytes, number_at-no_bytes, number-byte}
 use Rattle.dwc_base.proofs.cursor.Cursor.u8.Goals as goal
 
 pub returns-in_err-field : goal.returns-in_err-field

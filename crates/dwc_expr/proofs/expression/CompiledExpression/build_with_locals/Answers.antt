@@ -1,7 +1,7 @@
 use Rattle.std.proofs.Common.{◌∙◌, Bor, ap, map, option_map}
 use Rattle.dwc_native.specs.BuiltExpressions.{Surroundings}
 use Rattle.dwc_native.specs.Parts.{CompiledParts}
-use Rattle.dwc_clif.specs.Registers.{Registers}
+use Rattle.dwc_isa.specs.Registers.{Registers}
 use Rattle.dwc_expr.specs.declared.frame.FunctionFrameInfo.{FunctionFrameInfo}
 use Rattle.dwc_expr.specs.Builds.{surroundings}
 use Rattle.dwc_expr.specs.PartViews.{part_view}

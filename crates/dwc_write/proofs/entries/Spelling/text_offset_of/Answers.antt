@@ -2,7 +2,7 @@ use Rattle.std.proofs.Common.{ℕ, ap, sym, ◌∙◌, Option}
 use Rattle.std.specs.Option.{unwrap_or}
 use Rattle.std.proofs.lemmas.Bool.{ltb-true, ltb-false}
 use Rattle.dwc_write.proofs.ReadTexts.{place-past}
-use Rattle.dwc_write.proofs.UnitLaws.{place_get}
+use Rattle.dwc_unit.proofs.UnitLaws.{place_get}
 use Rattle.dwc_write.proofs.entries.Spelling.text_offset_of.Goals as goal
 
 pub returns-in-Some : goal.returns-in-Some

@@ -1,9 +1,0 @@
-pub mod RegisterLaws
-pub mod LabelLaws
-pub mod ListEnds
-pub mod FlatLaws
-pub mod GapLaws
-pub mod PlaceLaws
-pub mod PutLaws
-pub mod LocLaws
-pub mod OverlayLaws

@@ -1,6 +1,0 @@
-use Rattle.dwc_clif.proofs.RegisterLaws.{same-registers}
-use Rattle.std.proofs.Common.{refl}
-use Rattle.dwc_clif.proofs.table_isa.TableIsa.new.Goals as goal
-
-pub returns : goal.returns
-returns c = rw (same-registers c.in_ok-registers.registers.entries c.args.registers.items (rw (← c.deref.ensures.value) c.in_ok-registers.ensures)) refl

@@ -1,5 +1,0 @@
-use Rattle.dwc_clif.proofs.LabelLaws.{get-labelled}
-use Rattle.dwc_clif.proofs.value_labels_ranges.ValueLabelsRanges.told.Goals as goal
-
-pub returns : goal.returns
-returns c = rw (← c.self.view_is, get-labelled c.self.inside.by_label.entries c.args.label.0) c.get.ensures.value

@@ -1,5 +1,0 @@
-use Rattle.dwc_clone.proofs.NativeRangeLaws.{zero-fits}
-use Rattle.dwc_clone.proofs.extent.position_of.Goals as goal
-
-pub returns-then-tag-eq-DW_TAG_compile_unit-clause-fits : goal.returns-then-tag-eq-DW_TAG_compile_unit-clause-fits
-returns-then-tag-eq-DW_TAG_compile_unit-clause-fits c = zero-fits

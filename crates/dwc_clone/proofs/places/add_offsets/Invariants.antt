@@ -1,6 +1,0 @@
-use Rattle.std.proofs.Common.{◌≡◌, ◌++◌, drop}
-use Rattle.dwc_clone.specs.OutputPlaces.{numbered}
-use Rattle.dwc_clone.proofs.places.add_offsets.Given as goal
-
-abbrev pub invariant-loop-i : goal.invariant-loop-i
-invariant-loop-i l = l.entries.items ++ numbered l.unit l.i (drop l.i l.offsets) ≡ l.fn.entries.items ++ numbered l.unit 0 l.offsets

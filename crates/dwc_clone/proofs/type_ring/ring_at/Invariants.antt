@@ -1,6 +1,0 @@
-use Rattle.dwc_clone.specs.TypeRings.{IsPath}
-use Rattle.dwc_clone.proofs.type_ring.ring_at.Given as goal
-
--- the types up to the next one were followed
-abbrev pub invariant-loop : goal.invariant-loop
-invariant-loop l = IsPath l.types l.own l.own l.ring.items l.next

@@ -1,0 +1,4 @@
+pub mod AddressMaps
+pub mod EmptyRecords
+pub mod FunctionFrames
+pub mod Gaps

@@ -1,0 +1,13 @@
+pub mod CodeNameLaws
+pub mod BoundLaws
+pub mod NativeRangeLaws
+pub mod InputExtentLaws
+pub mod NativeExtentLaws
+pub mod LocationValueLaws
+pub mod LocationListLaws
+pub mod LocationLaws
+pub mod LocationsFit
+pub mod StackPlaces
+pub mod StackViews
+pub mod ReadExtentLaws
+pub mod FrameLaws

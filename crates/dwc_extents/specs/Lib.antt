@@ -1,0 +1,11 @@
+pub mod InputExtents
+pub mod CodeNames
+pub mod Lineages
+pub mod NativeExtents
+pub mod BoundRefusals
+pub mod ReadExtents
+pub mod InForceSeen
+pub mod LocationValues
+pub mod LocationListValues
+pub mod StacksByDepth
+pub mod CodeSources

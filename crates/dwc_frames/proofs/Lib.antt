@@ -1,0 +1,4 @@
+pub mod FrameNumbers
+pub mod FrameEntries
+pub mod FrameOutputs
+pub mod FrameWidths

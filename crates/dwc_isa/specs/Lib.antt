@@ -1,0 +1,6 @@
+pub mod CallFrames
+pub mod FlatRanges
+pub mod Registers
+pub mod Targets
+pub mod ValueLabels
+pub mod ToldModules

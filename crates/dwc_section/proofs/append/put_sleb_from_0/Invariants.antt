@@ -1,0 +1,10 @@
+use Rattle.std.proofs.Common.{◌≡◌, ◌++◌, pos}
+use Rattle.dwc_base.specs.NumberBytes.{sleb_bytes}
+use Rattle.dwc_section.proofs.append.put_sleb_from_0.Given as goal
+
+-- what stands in the buffer, and the number that is left
+abbrev pub invariant-loop-rest : goal.invariant-loop-rest
+invariant-loop-rest l = l.out.items ++ sleb_bytes (pos l.rest) ≡ l.initial.out.items ++ sleb_bytes (pos l.initial.rest)
+
+abbrev pub decreases-loop-rest : goal.decreases-loop-rest
+decreases-loop-rest l = l.rest

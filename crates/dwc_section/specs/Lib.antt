@@ -1,0 +1,4 @@
+pub mod Spelled
+pub mod SpelledAddresses
+pub mod Writers
+pub mod RisingRelocations

@@ -1,0 +1,5 @@
+pub mod ErrorLaws
+pub mod PlaceLaws
+pub mod TextLaws
+pub mod KnownLaws
+pub mod CompiledModuleLaws

@@ -1,0 +1,6 @@
+pub mod Errors
+pub mod OutputPlaces
+pub mod Sources
+pub mod MadeValues
+pub mod CompiledModules
+pub mod KnownTexts

@@ -1,0 +1,12 @@
+pub mod ChainNameLaws
+pub mod TypeFoundLaws
+pub mod TypeStepLaws
+pub mod ChainWalkLaws
+pub mod DerivedTypeLaws
+pub mod KnownTypeLaws
+pub mod NotedNameLaws
+pub mod RingLaws
+pub mod RingTextLaws
+pub mod TypeRingLaws
+pub mod RingWalkLaws
+pub mod WrapperTextLaws

@@ -1,0 +1,12 @@
+pub mod FileTakes
+pub mod ImportLaws
+pub mod Translated
+pub mod SectionWalk
+pub mod HeldSections
+pub mod WalkedSections
+pub mod FileStarts
+pub mod SortedEntryLaws
+pub mod WasmNameLaws
+pub mod VectorLaws
+pub mod NameWalk
+pub mod NameOrder

@@ -1,9 +1,0 @@
-use Rattle.dwc_write.proofs.ReadNumbers.{sleb_bytes-more, sleb_bytes-small}
-use Rattle.dwc_write.proofs.Appended.{appended-more, appended-last}
-use Rattle.dwc_write.proofs.append.put_sleb_from_0.Goals as goal
-
-pub loop-rest-preserved : goal.loop-rest-preserved
-loop-rest-preserved c = appended-more _ _ _ _ _ _ c.in_ok-push.ensures.items (sleb_bytes-more c.loop-rest.rest c.loop-rest-test.true) c.loop-rest.invariant
-
-pub returns : goal.returns
-returns c = appended-last _ _ _ _ _ c.in_ok-push-2.ensures.items (sleb_bytes-small c.loop-rest.rest c.loop-rest-test.false) c.loop-rest.invariant
