@@ -29,20 +29,32 @@ LOAD_ADDRESS = "59 89 c9" + LOAD_CONTEXT + "48 03 8f {memory}"  # pop rcx; mov e
 TEMPLATES = {
     "local.get": (1, "ff b5 {local}"),  # push [rbp + local]
     "local.set": (-1, "8f 85 {local}"),  # pop [rbp + local]
+    "local.tee": (0, "58 50 48 89 85 {local}"),  # pop rax; push rax; mov [rbp + local], rax
     "global.get": (1, LOAD_CONTEXT + "ff b7 {global}"),  # push [rdi + global]
     "global.set": (-1, LOAD_CONTEXT + "8f 87 {global}"),  # pop [rdi + global]
     "i32.load": (0, LOAD_ADDRESS + "8b 81 {number} 50"),  # mov eax, [rcx + number]; push rax
     "i32.store": (-2, "58" + LOAD_ADDRESS + "89 81 {number}"),  # pop rax; LOAD_ADDRESS; mov [rcx + number], eax
+    "i64.load": (0, LOAD_ADDRESS + "48 8b 81 {number} 50"),  # mov rax, [rcx + number]; push rax
+    "i64.store": (-2, "58" + LOAD_ADDRESS + "48 89 81 {number}"),  # pop rax; LOAD_ADDRESS; mov [rcx + number], rax
     "i32.const": (1, "68 {number}"),  # push number
+    "i64.const": (1, "68 {number}"),
+    "drop": (-1, "58"),  # pop rax
+    "select": (-2, "59 5a 58 85 c9 48 0f 44 c2 50"),  # pop rcx; pop rdx; pop rax; test ecx, ecx; cmove rax, rdx; push rax
     "i32.eqz": (0, "58 85 c0 0f 94 c0 0f b6 c0 50"),  # pop rax; test eax, eax; sete al; movzx eax, al; push rax
-    "i32.ne": (-1, "59 58 39 c8 0f 95 c0 0f b6 c0 50"),  # pop rcx; pop rax; cmp eax, ecx; setne al; movzx eax, al; push rax
-    "i32.lt_s": (-1, "59 58 39 c8 0f 9c c0 0f b6 c0 50"),  # the same with setl al
     "i32.add": (-1, "59 58 01 c8 50"),  # pop rcx; pop rax; add eax, ecx; push rax
     "i32.sub": (-1, "59 58 29 c8 50"),  # the same with sub eax, ecx
     "i32.mul": (-1, "59 58 0f af c1 50"),  # .. imul eax, ecx
     "i32.and": (-1, "59 58 21 c8 50"),  # .. and eax, ecx
+    "i32.or": (-1, "59 58 09 c8 50"),  # .. or eax, ecx
+    "i32.xor": (-1, "59 58 31 c8 50"),  # .. xor eax, ecx
     "i32.shl": (-1, "59 58 d3 e0 50"),  # .. shl eax, cl
+    "i32.shr_s": (-1, "59 58 d3 f8 50"),  # .. sar eax, cl
+    "i32.shr_u": (-1, "59 58 d3 e8 50"),  # .. shr eax, cl
 }
+# Comparisons, by the code of x86-64's condition: pop rcx; pop rax; cmp eax, ecx; set.. al; movzx eax, al; push rax
+CONDITIONS = {"eq": "94", "ne": "95", "lt_s": "9c", "lt_u": "92", "gt_s": "9f", "gt_u": "97"}
+CONDITIONS |= {"le_s": "9e", "le_u": "96", "ge_s": "9d", "ge_u": "93"}
+TEMPLATES |= {f"i32.{name}": (-1, f"59 58 39 c8 0f {code} c0 0f b6 c0 50") for name, code in CONDITIONS.items()}
 
 
 def local_slot(index: int) -> int:
@@ -124,6 +136,8 @@ class FunctionCompiler:
                 self.add("48 c7 85 {local} 00000000", index)  # mov qword [rbp + local], 0
 
     def add_instruction(self, instruction: Instruction) -> None:
+        if instruction.name == "i64.const" and not -(2**31) <= instruction.operand < 2**31:
+            raise Unsupported(f"the constant {instruction.operand} at {instruction.offset}")
         if instruction.name in TEMPLATES:
             change, template = TEMPLATES[instruction.name]
             self.add(template, instruction.operand)

@@ -8,12 +8,17 @@ PAGE = 65536
 EMPTY_BLOCK = 0x40
 
 # The instructions of the example by their opcodes, apart by what follows these.
-PLAIN = {0x0B: "end", 0x0F: "return", 0x45: "i32.eqz", 0x47: "i32.ne", 0x48: "i32.lt_s"}
-PLAIN |= {0x6A: "i32.add", 0x6B: "i32.sub", 0x6C: "i32.mul", 0x71: "i32.and", 0x74: "i32.shl"}
-INDEXED = {0x0C: "br", 0x0D: "br_if", 0x10: "call", 0x20: "local.get", 0x21: "local.set", 0x23: "global.get", 0x24: "global.set"}
+PLAIN = {0x0B: "end", 0x0F: "return", 0x1A: "drop", 0x1B: "select", 0x45: "i32.eqz", 0x46: "i32.eq", 0x47: "i32.ne"}
+PLAIN |= {0x48: "i32.lt_s", 0x49: "i32.lt_u", 0x4A: "i32.gt_s", 0x4B: "i32.gt_u"}
+PLAIN |= {0x4C: "i32.le_s", 0x4D: "i32.le_u", 0x4E: "i32.ge_s", 0x4F: "i32.ge_u"}
+PLAIN |= {0x6A: "i32.add", 0x6B: "i32.sub", 0x6C: "i32.mul", 0x71: "i32.and", 0x72: "i32.or", 0x73: "i32.xor"}
+PLAIN |= {0x74: "i32.shl", 0x75: "i32.shr_s", 0x76: "i32.shr_u"}
+INDEXED = {0x0C: "br", 0x0D: "br_if", 0x10: "call", 0x20: "local.get", 0x21: "local.set", 0x22: "local.tee"}
+INDEXED |= {0x23: "global.get", 0x24: "global.set"}
 BLOCKS = {0x02: "block", 0x03: "loop"}
-ACCESSES = {0x28: "i32.load", 0x36: "i32.store"}
-NUMBERS = {0x41: "i32.const"}
+ACCESSES = {0x28: "i32.load", 0x29: "i64.load", 0x36: "i32.store", 0x37: "i64.store"}
+NUMBERS = {0x41: "i32.const", 0x42: "i64.const"}
+FUNCTION_NAMES = 1  # the subsection of the section of names
 
 
 class Unsupported(Exception):
@@ -96,8 +101,10 @@ class Reader:
         return self.unsigned() * PAGE
 
     def function_names(self) -> dict[int, str]:
-        """The names of functions by their numbers; they stand first in the section of names."""
-        self.byte()
+        """The names of functions by their numbers, from the section of names; the name of the module may stand in front."""
+        while self.byte() != FUNCTION_NAMES:
+            size = self.unsigned()
+            self.position += size
         self.unsigned()
         return dict(self.vector(lambda: (self.unsigned(), self.text())))
 
