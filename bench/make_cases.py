@@ -16,6 +16,7 @@ import check_cases
 import context_cases
 import entry_cases
 import frame_cases
+import hostile_cases
 import last_unit_cases
 import listed_trees
 import location_cases
@@ -737,6 +738,7 @@ def main():
         frame_cases.frame_cases(Cases("frames.txt")),
         last_unit_cases.last_unit_cases(Cases("last_unit.txt")),
         realistic_cases.realistic_cases(Cases("realistic.txt")),
+        hostile_cases.hostile_cases(Cases("hostile.txt")),
         line_cases(),
         listing_cases(),
     ]
