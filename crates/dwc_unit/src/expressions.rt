@@ -110,8 +110,18 @@ impl Expression {
     /// Puts an unsigned LEB128 number behind its bytes, as short as it can be. (DWARF 4, section 7.6.)
     ///
     /// # Errors
-    /// `AllocError` for want of memory; some of the number's bytes may have been put then.
+    /// `AllocError` for want of memory; its bytes are as before then.
     pub fn put_uleb(&mut self, value: u64) -> Result<(), AllocError>
+        ensures bytes { OnOk result (self.new ≡ self.old ++ uleb_bytes value) }
+        ensures kept { OnErr result (self.new ≡ self.old) }
+    {
+        let mut number = Expression::new(self.alloc);
+        number.push_uleb(value)?;
+        self.extend_from_slice(number.as_slice())
+    }
+
+    // Pushes the bytes of a number one by one.
+    fn push_uleb(&mut self, value: u64) -> Result<(), AllocError>
         ensures { OnOk result (self.new ≡ self.old ++ uleb_bytes value) }
     {
         let mut rest = value;
@@ -126,18 +136,28 @@ impl Expression {
     /// Puts a signed LEB128 number behind its bytes, as short as it can be. (DWARF 4, section 7.6.)
     ///
     /// # Errors
-    /// `AllocError` for want of memory; some of the number's bytes may have been put then.
+    /// `AllocError` for want of memory; its bytes are as before then.
     pub fn put_sleb(&mut self, value: i64) -> Result<(), AllocError>
+        ensures bytes { OnOk result (self.new ≡ self.old ++ sleb_bytes value) }
+        ensures kept { OnErr result (self.new ≡ self.old) }
+    {
+        let mut number = Expression::new(self.alloc);
+        number.push_sleb(value)?;
+        self.extend_from_slice(number.as_slice())
+    }
+
+    // Pushes the bytes of a number one by one.
+    fn push_sleb(&mut self, value: i64) -> Result<(), AllocError>
         ensures { OnOk result (self.new ≡ self.old ++ sleb_bytes value) }
     {
         if value < 0 {
-            self.put_sleb_below_0((-(value + 1)) as u64)
+            self.push_sleb_below_0((-(value + 1)) as u64)
         } else {
-            self.put_sleb_from_0(value as u64)
+            self.push_sleb_from_0(value as u64)
         }
     }
 
-    fn put_sleb_from_0(&mut self, value: u64) -> Result<(), AllocError>
+    fn push_sleb_from_0(&mut self, value: u64) -> Result<(), AllocError>
         ensures { OnOk result (self.new ≡ self.old ++ sleb_bytes (pos value)) }
     {
         let mut rest = value;
@@ -150,7 +170,7 @@ impl Expression {
     }
 
     // The number that is so much below -1.
-    fn put_sleb_below_0(&mut self, value: u64) -> Result<(), AllocError>
+    fn push_sleb_below_0(&mut self, value: u64) -> Result<(), AllocError>
         ensures { OnOk result (self.new ≡ self.old ++ sleb_bytes (negsuc value)) }
     {
         let mut rest = value;

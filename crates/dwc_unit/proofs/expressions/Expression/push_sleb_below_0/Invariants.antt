@@ -1,7 +1,7 @@
 use Rattle.std.proofs.Common.{◌≡◌, ◌++◌}
 use Rattle.std.specs.Prelude.{negsuc}
 use Rattle.dwc_base.specs.NumberBytes.{sleb_bytes}
-use Rattle.dwc_unit.proofs.expressions.Expression.put_sleb_below_0.Given as goal
+use Rattle.dwc_unit.proofs.expressions.Expression.push_sleb_below_0.Given as goal
 
 -- what stands in the buffer, and the number that is left
 abbrev pub invariant-loop-rest : goal.invariant-loop-rest

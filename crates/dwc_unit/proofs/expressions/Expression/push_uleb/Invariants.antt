@@ -1,6 +1,6 @@
 use Rattle.std.proofs.Common.{◌≡◌, ◌++◌}
 use Rattle.dwc_base.specs.NumberBytes.{uleb_bytes}
-use Rattle.dwc_unit.proofs.expressions.Expression.put_uleb.Given as goal
+use Rattle.dwc_unit.proofs.expressions.Expression.push_uleb.Given as goal
 
 -- what stands in the buffer, and the number that is left
 abbrev pub invariant-loop-rest : goal.invariant-loop-rest
