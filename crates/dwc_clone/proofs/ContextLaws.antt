@@ -1,8 +1,8 @@
 -- The variable of the context, and what is told where it is refused.
-use Rattle.std.proofs.Common.{◌≡◌, ℕ, refl, sym, ap, subst, ◌∙◌, List, map, Option, Some, None, Result, Ok, Err}
-use Rattle.std.specs.Prelude.{◌≢◌, OnOk, option_map, true, false}
+use Rattle.std.proofs.Common.{◌≡◌, ◌∷◌, [], inl, inr, ℕ, refl, sym, ap, subst, ◌∙◌, List, map, Option, Some, None, Result, Ok, Err}
+use Rattle.std.specs.Prelude.{◌≢◌, OnErr, OnOk, option_map, true, false}
 use Rattle.std.proofs.lemmas.Bool.{eq-eqb, ne_eqb}
-use Rattle.dwc_base.specs.declared.constants.TheConstants.{DW_AT_location, DW_TAG_subprogram}
+use Rattle.dwc_base.specs.declared.constants.TheConstants.{DW_AT_location, DW_AT_name, DW_AT_type, DW_TAG_subprogram, DW_TAG_variable}
 use Rattle.dwc_native.specs.BuiltExpressions.{BuildRefusal}
 use Rattle.dwc_rules.specs.ContextVariable.{context_in, context_over, location_refusals}
 use Rattle.dwc_rules.specs.EntryRules.{of_build, of_location}
@@ -21,7 +21,10 @@ use Rattle.dwc_section.specs.declared.error.WriteError.{WriteError}
 use Rattle.dwc_unit.specs.LocationLists.{LocationList}
 use Rattle.dwc_unit.specs.GivenUnits.{FitsValue, GivenUnit}
 use Rattle.dwc_clone.specs.ClonedUnits.{TellsFirst}
-use Rattle.dwc_clone.specs.ContextPlaces.{AddsContext, IsRefused, IsVariable, OfWritten}
+use Rattle.dwc_clone.specs.ContextPlaces.{AddsContext, HasPartOfVariable, IsRefused, IsVariable, OfWritten}
+use Rattle.dwc_clone.specs.MadeAttributes.{HasPart, with_made_entry}
+use Rattle.dwc_clone.specs.declared.made.MadeValue.TheVariants.{AnyEntry, Text}
+use Rattle.dwc_unit.specs.declared.strings.StringId.{StringId}
 use Rattle.dwc_extents.specs.LocationValues.{told}
 
 -- Where the context lies at places that fit a list, the variable that is added with that list is as is expected.
@@ -30,7 +33,23 @@ pub context-added : (expected : Result (List Location) BuildRefusal) (parent : �
 context-added expected parent type texts u0 u list written (Ok x) located fits has is =
     let added = subst (λ w. OnOk w (IsVariable list parent type texts u0 u)) is has in
     record { list = list; located = located; fits = fits; name = added.name; named = added.named; is = added.is }
-context-added expected parent type texts u0 u list written (Err e) located fits has is = subst (λ x. IsRefused expected x (refusal_told x)) (sym is) refl
+context-added expected parent type texts u0 u list written (Err e) located fits has is = subst (λ x. IsRefused expected x (refusal_told x)) (sym is.0) refl
+
+-- What holds where the writer refuses holds where its answer is passed on.
+pub refused-passed : (P : Type 0) (written : Result (Unit {0}) WriteError) (r : Result (Unit {0}) ExprError) → OfWritten written r → OnErr written P → OnErr r P
+refused-passed P written (Ok x) is holds = tt
+refused-passed P (Ok x) (Err e) is holds = absurd is.1
+refused-passed P (Err w) (Err e) is holds = holds
+
+-- An entry with its name and its type alone is a part of the variable.
+pub part-without-place : (parent : ℕ) (type : DebugInfoRef) (name : StringId) (u0 u v : GivenUnit) (r : Result (Unit {0}) WriteError) → v ≡ with_made_entry parent DW_TAG_variable ((DW_AT_name, Text name) ∷ (DW_AT_type, AnyEntry type) ∷ []) u0 → OnErr r (u ≡ v) → OnErr r (HasPartOfVariable parent type u0 u)
+part-without-place parent type name u0 u v (Ok x) made same = tt
+part-without-place parent type name u0 u v (Err e) made same = inr (name, 2, same ∙ made)
+
+-- A part of the entry without its place is a part of the variable.
+pub part-of-made : (parent : ℕ) (type : DebugInfoRef) (name : StringId) (u0 u : GivenUnit) → HasPart parent DW_TAG_variable ((DW_AT_name, Text name) ∷ (DW_AT_type, AnyEntry type) ∷ []) u0 u → HasPartOfVariable parent type u0 u
+part-of-made parent type name u0 u (inl same) = inl same
+part-of-made parent type name u0 u (inr (count, is)) = inr (name, count, is)
 
 -- What an error tells of the context is the first refusal.
 pub context-refused : (place : ℕ) (expected : Result (List Location) BuildRefusal) (e : ExprError) (o : Option Refusal) → IsRefused expected e (refusal_told e) → o ≡ option_map (of_location place) (told e) → TellsFirst (map (of_build place) (location_refusals (Some expected))) o

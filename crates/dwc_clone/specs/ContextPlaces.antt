@@ -1,5 +1,5 @@
 -- Where the context of a module lies, as calls answer it.
-use Rattle.std.specs.Prelude.{◌≡◌, ℕ, List, map, length, Option, Some, None, Result, Ok, Err, codes}
+use Rattle.std.specs.Prelude.{◌≡◌, ◌⊎◌, ℕ, List, [], ◌∷◌, map, take, length, Option, Some, None, OnOk, Result, Ok, Err, codes}
 use Rattle.dwc_base.specs.declared.constants.TheConstants.{DW_AT_location, DW_AT_name, DW_AT_type, DW_TAG_variable}
 use Rattle.dwc_native.specs.BuiltExpressions.{BuildRefusal}
 use Rattle.dwc_dwarf.specs.Trees.{Location}
@@ -13,7 +13,9 @@ use Rattle.dwc_unit.specs.GivenUnits.{FitsValue, GivenUnit, with_child, with_nex
 use Rattle.dwc_source.specs.declared.error.CloneError.{CloneError}
 use Rattle.dwc_source.specs.Errors as refusals
 use Rattle.dwc_source.specs.KnownTexts.{IsNumbered}
+use Rattle.dwc_clone.specs.declared.made.MadeValue.TheVariants.{AnyEntry, Text}
 use Rattle.dwc_clone.specs.ClonedUnits.{TellsFirst}
+use Rattle.dwc_clone.specs.MadeAttributes.{with_made_entry}
 use Rattle.dwc_expr.specs.declared.error.ExprError.{ExprError}
 use Rattle.dwc_expr.specs.declared.error.ExprError.TheVariants.{OutOfMemory}
 use Rattle.dwc_expr.specs.Builds.{location_view}
@@ -44,10 +46,14 @@ pub record IsVariable (list : LocationList) (parent : ℕ) (type : DebugInfoRef)
   pub named : IsNumbered texts (codes "__vmctx") name
   pub is : u ≡ with_variable parent name type list u0
 
--- A call answers what a call of the writer answered; a refusal is for want of memory.
+-- A unit as it was, or with a part of the variable of the context below an entry: with none of its attributes, its name, or its type too.
+abbrev pub HasPartOfVariable : ℕ → DebugInfoRef → GivenUnit → GivenUnit → Type 0
+HasPartOfVariable parent type u0 u = (u ≡ u0) ⊎ ((name : StringId) × (count : ℕ) × (u ≡ with_made_entry parent DW_TAG_variable (take count ((DW_AT_name, Text name) ∷ (DW_AT_type, AnyEntry type) ∷ [])) u0))
+
+-- A call answers what a call of the writer answered; a refusal is one of the writer, for want of memory.
 abbrev pub OfWritten : {T : Type 0} → Result T WriteError → Result T ExprError → Type 0
 OfWritten written (Ok x) = written ≡ Ok x
-OfWritten written (Err e) = e ≡ OutOfMemory
+OfWritten written (Err e) = (e ≡ OutOfMemory) × OnOk written ⊥
 
 -- A unit has the variable of the context below an entry, with a type, and where it lies, as is expected.
 pub record HasContext (expected : Result (List Location) BuildRefusal) (parent : ℕ) (type : DebugInfoRef) (texts : List (List ℕ)) (u0 u : GivenUnit) : Type 0 where

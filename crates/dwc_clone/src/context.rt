@@ -1,5 +1,5 @@
 //! The variable that leads a debugger to the context of a module, and so to its linear memory. (DWARF 4 and 5, section 4.1.)
-ghost use Rattle.std.specs.Prelude.{◌≡◌, ℕ, is_some, true, IfErr, IfOk, OnOk, option_map};
+ghost use Rattle.std.specs.Prelude.{◌≡◌, ℕ, is_some, true, IfErr, IfOk, OnErr, OnOk, option_map};
 ghost use Rattle.dwc_native.specs.Addends.{HaveAddends};
 ghost use Rattle.dwc_native.specs.BuiltExpressions.{label_over};
 ghost use Rattle.dwc_native.specs.Parts.{context_label};
@@ -8,7 +8,7 @@ ghost use Rattle.dwc_expr.specs.Errors.{refusal_told};
 ghost use Rattle.dwc_base.specs.declared.constants.TheConstants.{DW_AT_location};
 ghost use Rattle.dwc_unit.specs.declared.attributes.AttributeValue.TheVariants.{LocationListRef};
 ghost use Rattle.dwc_unit.specs.GivenUnits.{FitsValue, IsAdded};
-ghost use Rattle.dwc_clone.specs.ContextPlaces.{AddsContext, IsVariable, LiesOver, OfWritten};
+ghost use Rattle.dwc_clone.specs.ContextPlaces.{AddsContext, HasPartOfVariable, IsVariable, LiesOver, OfWritten};
 ghost use Rattle.dwc_source.specs.MadeValues.{Grows};
 
 use crate::made::{MadeValue, add_made};
@@ -61,6 +61,7 @@ fn add_context(
     requires fits { (size : ℕ) → FitsValue size DW_AT_location (LocationListRef locations) }
     ensures grows { Grows out_strings.old out_strings.new }
     ensures variable { OnOk result (IsVariable locations parent.index vmctx_ptr_die_ref out_strings.new unit.old unit.new) }
+    ensures part { OnErr result (HasPartOfVariable parent.index vmctx_ptr_die_ref unit.old unit.new) }
 {
     let name = add_text(out_strings, b"__vmctx")?;
     let variable = add_made(
@@ -82,7 +83,8 @@ fn add_context(
 ///
 /// # Errors
 /// `BadLabelRange` where the context has a range in the frame that begins above its end; `UnmappedRegister` where it lies in a register
-/// for which the target has no number, on a byte of the scope; the unit and the texts are then as before. `OutOfMemory` for want of memory.
+/// for which the target has no number, on a byte of the scope; the unit and the texts are then as before. `OutOfMemory` for want of
+/// memory; the variable may then be there without attributes, with its name, or with its name and its type, and its name among the texts.
 pub fn append_vmctx_info(
     alloc: Global,
     unit: &mut Unit,
@@ -98,6 +100,7 @@ pub fn append_vmctx_info(
     requires parent { IsAdded parent.index unit.old }
     ensures grows { Grows out_strings.old out_strings.new }
     ensures variable { AddsContext (label_over (surroundings addr_tr.now (option_map (λ f. f.now) frame_info.entry) (dwarf_registers isa.now)) scope_ranges.now context_label) parent.index vmctx_ptr_die_ref out_strings.new unit.old unit.new result }
+    ensures part { OnErr result (HasPartOfVariable parent.index vmctx_ptr_die_ref unit.old unit.new) }
     ensures refused { IfErr result (λ e. is_some (refusal_told e) ≡ true → (unit.new ≡ unit.old) × (out_strings.new ≡ out_strings.old)) }
 {
     let locations = context_over(alloc, addr_tr, frame_info, scope_ranges, isa)?;

@@ -1,8 +1,8 @@
 //! Adds entries that stem from none of the input to a unit of the output.
-ghost use Rattle.std.specs.Prelude.{◌≡◌, ℕ, length, All, IfOk, IsOkUnless, OnOk};
+ghost use Rattle.std.specs.Prelude.{◌≡◌, ℕ, length, All, IfOk, IsOkUnless, OnErr, OnOk};
 ghost use Rattle.dwc_unit.specs.GivenUnits.{IsAdded};
 ghost use Rattle.dwc_section.specs.declared.error.WriteError.TheVariants.{OutOfMemory};
-ghost use Rattle.dwc_clone.specs.MadeAttributes.{FitsMade, given_value, with_made_entry, with_values};
+ghost use Rattle.dwc_clone.specs.MadeAttributes.{FitsMade, HasFront, HasPart, given_value, with_made_entry, with_values};
 
 use dwc_section::WriteError;
 use dwc_unit::{AttributeValue, DebugInfoRef, StringId, Unit, UnitEntryId};
@@ -32,7 +32,7 @@ fn attribute_value(value: MadeValue) -> AttributeValue
     }
 }
 
-/// Gives an entry attributes, in order.
+/// Gives an entry attributes, in order. For want of memory it may have a front of them.
 pub(crate) fn set_values(
     unit: &mut Unit,
     id: UnitEntryId,
@@ -41,6 +41,7 @@ pub(crate) fn set_values(
     requires known { IsAdded id.index unit.old }
     requires fits { All FitsMade attributes.now }
     ensures set { OnOk result (unit.new ≡ with_values id.index attributes.now unit.old) }
+    ensures part { OnErr result (HasFront id.index attributes.now unit.old unit.new) }
     ensures memory { IsOkUnless result OutOfMemory }
 {
     for i in 0..attributes.len() {
@@ -50,7 +51,7 @@ pub(crate) fn set_values(
     Ok(())
 }
 
-/// Adds an entry with attributes below a parent.
+/// Adds an entry with attributes below a parent. For want of memory it may be there with a front of them.
 pub(crate) fn add_made(
     unit: &mut Unit,
     parent: UnitEntryId,
@@ -60,6 +61,7 @@ pub(crate) fn add_made(
     requires parent { IsAdded parent.index unit.old }
     requires fits { All FitsMade attributes.now }
     ensures added { OnOk result (unit.new ≡ with_made_entry parent.index tag attributes.now unit.old) }
+    ensures part { OnErr result (HasPart parent.index tag attributes.now unit.old unit.new) }
     ensures id { IfOk result (λ id. id ≡ record { index = length unit.old.places }) }
     ensures here { IfOk result (λ id. IsAdded id.index unit.new) }
     ensures kept { (other : ℕ) → IsAdded other unit.old → OnOk result (IsAdded other unit.new) }
