@@ -10,6 +10,7 @@ pub mod ExpressionLaws
 pub mod FilledLaws
 pub mod FirstLaws
 pub mod FlatPlaces
+pub mod FrontLaws
 pub mod GatherLaws
 mod JoinedLaws
 pub mod JumpLaws

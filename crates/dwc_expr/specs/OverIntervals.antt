@@ -12,6 +12,11 @@ use Rattle.dwc_expr.specs.Builds.{IsTold, location_view}
 use Rattle.dwc_expr.specs.Compiles.{TellsPlace}
 use Rattle.dwc_expr.specs.Errors.{refusal_told}
 
+-- A list stands in front of another, with whatever is behind it.
+pub record IsFront {A : Type 0} (old new : List A) : Type 0 where
+  pub rest : List A
+  pub is : new ≡ old ++ rest
+
 -- what is built, behind other locations
 abbrev pub put_behind : List Location → Result BuiltExpressions BuildRefusal → Result (List Location) BuildRefusal
 put_behind old expected = expected >>= λ built. Ok (old ++ built.expressions)

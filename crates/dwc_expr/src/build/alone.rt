@@ -13,6 +13,7 @@ ghost use Rattle.dwc_expr.specs.Builds.{Builds, surroundings};
 ghost use Rattle.dwc_expr.specs.CodeRanges.{code_range_view};
 ghost use Rattle.dwc_isa.specs.FlatRanges.{IsFlat};
 ghost use Rattle.dwc_expr.specs.NarrowedRanges.{Tells};
+ghost use Rattle.dwc_expr.specs.OverIntervals.{IsFront};
 ghost use Rattle.dwc_expr.specs.PlacedParts.{cut_by, EndBy};
 ghost use Rattle.dwc_expr.specs.RangeSettings.{with_registers};
 
@@ -130,6 +131,7 @@ pub(crate) fn count_in(pieces: &[ValueLocRange], first: usize, range: CodeRange)
 
 // Puts the expressions of a local on the bytes that a range has in flat pieces behind others. The pieces in front of the first end in
 // front of the range.
+#[tactic(auto, using(crate::proofs::FrontLaws::front_same, crate::proofs::FrontLaws::front_more, crate::proofs::FrontLaws::front_behind))]
 pub(crate) fn put_expressions(
     alloc: Global,
     expressions: &mut Vec<(Address, u64, Expression)>,
@@ -142,7 +144,8 @@ pub(crate) fn put_expressions(
     requires flat { IsFlat (map range_view pieces.now) }
     requires passed { EndBy range.start first (map range_view pieces.now) }
     requires low { range.end < 2 ^ 32 }
-    ensures { PutsAlone local.trailing (dwarf_registers isa.now) (parts_in range pieces.now) expressions.old.items expressions.new.items result }
+    ensures puts { PutsAlone local.trailing (dwarf_registers isa.now) (parts_in range pieces.now) expressions.old.items expressions.new.items result }
+    ensures front { IsFront expressions.old.items expressions.new.items }
 {
     for place in first..pieces.len() {
         let piece = &pieces[place];
@@ -155,6 +158,7 @@ pub(crate) fn put_expressions(
 }
 
 // Puts the expression on the bytes that a range has in a piece, if there are any.
+#[tactic(auto, using(crate::proofs::FrontLaws::front_same, crate::proofs::FrontLaws::front_more, crate::proofs::FrontLaws::front_behind))]
 fn put_in(
     alloc: Global,
     expressions: &mut Vec<(Address, u64, Expression)>,
@@ -164,7 +168,8 @@ fn put_in(
     isa: &dyn TargetIsa,
 ) -> Result<(), ExprError>
     requires low { range.end < 2 ^ 32 }
-    ensures { PutsAlone local.trailing (dwarf_registers isa.now) (option_to_list (cut_by 0 (code_range_view range) (range_view piece.now))) expressions.old.items expressions.new.items result }
+    ensures puts { PutsAlone local.trailing (dwarf_registers isa.now) (option_to_list (cut_by 0 (code_range_view range) (range_view piece.now))) expressions.old.items expressions.new.items result }
+    ensures front { IsFront expressions.old.items expressions.new.items }
 {
     match part_in(range, piece) {
         Some(part) => push_on(alloc, expressions, local.trailing, part, piece.loc, isa),
@@ -192,6 +197,7 @@ fn part_in(range: CodeRange, piece: &ValueLocRange) -> Option<CodeRange>
 }
 
 // Puts the expression on a part of a range, by the place of the label there.
+#[tactic(auto, using(crate::proofs::FrontLaws::front_same, crate::proofs::FrontLaws::front_more, crate::proofs::FrontLaws::front_behind))]
 fn push_on(
     alloc: Global,
     expressions: &mut Vec<(Address, u64, Expression)>,
@@ -202,7 +208,8 @@ fn push_on(
 ) -> Result<(), ExprError>
     requires some { part.start < part.end }
     requires low { part.end < 2 ^ 32 }
-    ensures { PutsAlone trailing (dwarf_registers isa.now) (part_at place part ∷ []) expressions.old.items expressions.new.items result }
+    ensures puts { PutsAlone trailing (dwarf_registers isa.now) (part_at place part ∷ []) expressions.old.items expressions.new.items result }
+    ensures front { IsFront expressions.old.items expressions.new.items }
 {
     check_place(place, isa)?;
     let expression = expression_at(alloc, trailing, place, isa)?;

@@ -6,6 +6,7 @@ ghost use Rattle.dwc_native.specs.Runs.{native_in_function};
 ghost use Rattle.dwc_addr.specs.Translations.{with_lengths};
 ghost use Rattle.dwc_expr.specs.Builds.{location_view, built_view};
 ghost use Rattle.dwc_expr.specs.Copies.{copy_at};
+ghost use Rattle.dwc_expr.specs.OverIntervals.{IsFront};
 
 use crate::BuiltCompiledExpression;
 use dwc_addr::AddressTransform;
@@ -33,6 +34,7 @@ pub(crate) fn copied(
 }
 
 // Pushes a copy for each native range of an interval.
+#[tactic(auto, using(crate::proofs::FrontLaws::front_same, crate::proofs::FrontLaws::front_more, crate::proofs::FrontLaws::front_behind))]
 pub(crate) fn push_copies(
     alloc: Global,
     expressions: &mut Vec<(Address, u64, Expression)>,
@@ -41,7 +43,8 @@ pub(crate) fn push_copies(
     end: u64,
     code: &[u8],
 ) -> Result<(), AllocError>
-    ensures { OnOk result (map location_view expressions.new.items ≡ map location_view expressions.old.items ++ map (copy_at code.now) (with_lengths (native_in_function addr_tr.now start end))) }
+    ensures copies { OnOk result (map location_view expressions.new.items ≡ map location_view expressions.old.items ++ map (copy_at code.now) (with_lengths (native_in_function addr_tr.now start end))) }
+    ensures front { IsFront expressions.old.items expressions.new.items }
 {
     for (begin, length) in addr_tr.translate_ranges(start, end) {
         let copy = Expression::from_slice(alloc, code)?;

@@ -13,7 +13,7 @@ ghost use Rattle.dwc_expr.specs.Alone.{framed};
 ghost use Rattle.dwc_expr.specs.Builds.{surroundings};
 ghost use Rattle.dwc_expr.specs.CodeRanges.{code_range_view};
 ghost use Rattle.dwc_expr.specs.Frames.{told_frame};
-ghost use Rattle.dwc_expr.specs.OverIntervals.{Puts, PutsBuilt, constant};
+ghost use Rattle.dwc_expr.specs.OverIntervals.{IsFront, Puts, PutsBuilt, constant};
 ghost use Rattle.dwc_expr.specs.NarrowedRanges.{Tells};
 ghost use Rattle.dwc_expr.specs.OwnPlaces.{own_ranges};
 
@@ -37,7 +37,9 @@ use std::alloc::{AllocError, Global};
 /// nothing is put.
 ///
 /// # Errors
-/// Those of `compile_expression`, and then those of `build_with_locals`.
+/// Those of `compile_expression`, and then those of `build_with_locals`. The locations that stood there stay in front then, as always;
+/// some of what the expression becomes may stand behind them.
+#[tactic(auto, using(crate::proofs::FrontLaws::front_same, crate::proofs::FrontLaws::front_more, crate::proofs::FrontLaws::front_behind))]
 pub fn put_locations(
     alloc: Global,
     locations: &mut Vec<(Address, u64, Expression)>,
@@ -49,7 +51,8 @@ pub fn put_locations(
     frame_info: Option<&FunctionFrameInfo<'_>>,
     isa: &dyn TargetIsa,
 ) -> Result<bool, ExprError>
-    ensures { Puts (surroundings addr_tr.now (option_map (λ f. f.now) frame_info.entry) (dwarf_registers isa.now)) (interval ∷ []) locations.old.items locations.new.items (compiled (option_map (λ x. x.now) frame_base.entry) bytes.now) result }
+    ensures puts { Puts (surroundings addr_tr.now (option_map (λ f. f.now) frame_info.entry) (dwarf_registers isa.now)) (interval ∷ []) locations.old.items locations.new.items (compiled (option_map (λ x. x.now) frame_base.entry) bytes.now) result }
+    ensures front { IsFront locations.old.items locations.new.items }
 {
     if is_on_stack(bytes) {
         return Ok(false);
@@ -69,6 +72,7 @@ pub fn put_locations(
 }
 
 // The same of an expression that is no local of a short index, on a frame base without jumps.
+#[tactic(auto, using(crate::proofs::FrontLaws::front_same, crate::proofs::FrontLaws::front_more, crate::proofs::FrontLaws::front_behind))]
 fn put_other(
     alloc: Global,
     locations: &mut Vec<(Address, u64, Expression)>,
@@ -81,7 +85,8 @@ fn put_other(
     isa: &dyn TargetIsa,
 ) -> Result<bool, ExprError>
     requires free { holds_jump (option_map (λ x. x.now) frame_base) ≡ false }
-    ensures { Puts (surroundings addr_tr.now (option_map (λ f. f.now) frame_info.entry) (dwarf_registers isa.now)) (interval ∷ []) locations.old.items locations.new.items (compiled (option_map (λ x. x.now) frame_base.entry) bytes.now) result }
+    ensures puts { Puts (surroundings addr_tr.now (option_map (λ f. f.now) frame_info.entry) (dwarf_registers isa.now)) (interval ∷ []) locations.old.items locations.new.items (compiled (option_map (λ x. x.now) frame_base.entry) bytes.now) result }
+    ensures front { IsFront locations.old.items locations.new.items }
 {
     if is_bit(bytes) {
         put_constant(alloc, locations, bytes, interval, addr_tr)?;
@@ -93,6 +98,7 @@ fn put_other(
 }
 
 // Puts a constant over an interval.
+#[tactic(auto, using(crate::proofs::FrontLaws::front_same, crate::proofs::FrontLaws::front_more, crate::proofs::FrontLaws::front_behind))]
 fn put_constant(
     alloc: Global,
     locations: &mut Vec<(Address, u64, Expression)>,
@@ -102,6 +108,7 @@ fn put_constant(
 ) -> Result<(), ExprError>
     ensures ok { OnOk result ((frame : Option Frame) (registers : Registers) → PutsBuilt (built_over (framed addr_tr.now frame registers) (interval ∷ []) (constant bytes.now)) locations.old.items locations.new.items (Ok tt)) }
     ensures memory { IfErr result (λ e. e ≡ OutOfMemory) }
+    ensures front { IsFront locations.old.items locations.new.items }
 {
     make_room(locations, 1)?;
     push_copies(alloc, locations, addr_tr, interval.0, interval.1, bytes)?;
@@ -109,6 +116,7 @@ fn put_constant(
 }
 
 // The same of an expression of any form.
+#[tactic(auto, using(crate::proofs::FrontLaws::front_same, crate::proofs::FrontLaws::front_more, crate::proofs::FrontLaws::front_behind))]
 fn put_operations(
     alloc: Global,
     locations: &mut Vec<(Address, u64, Expression)>,
@@ -120,7 +128,8 @@ fn put_operations(
     frame_info: Option<&FunctionFrameInfo<'_>>,
     isa: &dyn TargetIsa,
 ) -> Result<bool, ExprError>
-    ensures { Puts (surroundings addr_tr.now (option_map (λ f. f.now) frame_info.entry) (dwarf_registers isa.now)) (interval ∷ []) locations.old.items locations.new.items (compiled (option_map (λ x. x.now) frame_base.entry) bytes.now) result }
+    ensures puts { Puts (surroundings addr_tr.now (option_map (λ f. f.now) frame_info.entry) (dwarf_registers isa.now)) (interval ∷ []) locations.old.items locations.new.items (compiled (option_map (λ x. x.now) frame_base.entry) bytes.now) result }
+    ensures front { IsFront locations.old.items locations.new.items }
 {
     match compile_expression(alloc, bytes, encoding, frame_base)? {
         Some(parts) => {
@@ -132,6 +141,7 @@ fn put_operations(
 }
 
 // Puts what a compiled expression becomes over an interval.
+#[tactic(auto, using(crate::proofs::FrontLaws::front_same, crate::proofs::FrontLaws::front_more, crate::proofs::FrontLaws::front_behind))]
 fn put_built(
     alloc: Global,
     locations: &mut Vec<(Address, u64, Expression)>,
@@ -141,7 +151,8 @@ fn put_built(
     frame_info: Option<&FunctionFrameInfo<'_>>,
     isa: &dyn TargetIsa,
 ) -> Result<(), ExprError>
-    ensures { PutsBuilt (built_over (surroundings addr_tr.now (option_map (λ f. f.now) frame_info.entry) (dwarf_registers isa.now)) (interval ∷ []) parts.now) locations.old.items locations.new.items result }
+    ensures puts { PutsBuilt (built_over (surroundings addr_tr.now (option_map (λ f. f.now) frame_info.entry) (dwarf_registers isa.now)) (interval ∷ []) parts.now) locations.old.items locations.new.items result }
+    ensures front { IsFront locations.old.items locations.new.items }
 {
     let scope = [interval];
     let mut built = parts.build_with_locals(alloc, &scope, addr_tr, frame_info, isa)?;
@@ -151,6 +162,7 @@ fn put_built(
 }
 
 // Puts what the place of a label becomes over an interval.
+#[tactic(auto, using(crate::proofs::FrontLaws::front_same, crate::proofs::FrontLaws::front_more, crate::proofs::FrontLaws::front_behind))]
 fn put_label(
     alloc: Global,
     locations: &mut Vec<(Address, u64, Expression)>,
@@ -160,7 +172,8 @@ fn put_label(
     frame_info: Option<&FunctionFrameInfo<'_>>,
     isa: &dyn TargetIsa,
 ) -> Result<(), ExprError>
-    ensures { PutsBuilt (built_over (surroundings addr_tr.now (option_map (λ f. f.now) frame_info.entry) (dwarf_registers isa.now)) (interval ∷ []) (label_alone «label».0)) locations.old.items locations.new.items result }
+    ensures puts { PutsBuilt (built_over (surroundings addr_tr.now (option_map (λ f. f.now) frame_info.entry) (dwarf_registers isa.now)) (interval ∷ []) (label_alone «label».0)) locations.old.items locations.new.items result }
+    ensures front { IsFront locations.old.items locations.new.items }
 {
     match flat_ranges(frame_info, label) {
         Ok(pieces) => put_by_pieces(
@@ -174,6 +187,7 @@ fn put_label(
 }
 
 // The same by flat ranges, which tell the places of the label. Where there are none, the native code of the interval is not looked for.
+#[tactic(auto, using(crate::proofs::FrontLaws::front_same, crate::proofs::FrontLaws::front_more, crate::proofs::FrontLaws::front_behind))]
 fn put_by_pieces(
     alloc: Global,
     locations: &mut Vec<(Address, u64, Expression)>,
@@ -186,7 +200,8 @@ fn put_by_pieces(
 ) -> Result<(), ExprError>
     requires flat { Flattens (own_ranges (option_map (λ f. told_frame f.now) frame_info) «label».0) (map range_view pieces.now) }
     requires good { list_any (λ r. nat_lt r.end r.start) (own_ranges (option_map (λ f. told_frame f.now) frame_info) «label».0) ≡ false }
-    ensures { PutsBuilt (built_over (surroundings addr_tr.now (option_map (λ f. f.now) frame_info.entry) (dwarf_registers isa.now)) (interval ∷ []) (label_alone «label».0)) locations.old.items locations.new.items result }
+    ensures puts { PutsBuilt (built_over (surroundings addr_tr.now (option_map (λ f. f.now) frame_info.entry) (dwarf_registers isa.now)) (interval ∷ []) (label_alone «label».0)) locations.old.items locations.new.items result }
+    ensures front { IsFront locations.old.items locations.new.items }
 {
     if pieces.is_empty() {
         return Ok(());
@@ -205,6 +220,7 @@ fn put_by_pieces(
 }
 
 // The same over one range of native code.
+#[tactic(auto, using(crate::proofs::FrontLaws::front_same, crate::proofs::FrontLaws::front_more, crate::proofs::FrontLaws::front_behind))]
 fn put_on_range(
     alloc: Global,
     locations: &mut Vec<(Address, u64, Expression)>,
@@ -217,7 +233,8 @@ fn put_on_range(
     requires flat { IsFlat (map range_view pieces.now) }
     requires some { range.start < range.end }
     requires low { range.end < 2 ^ 32 }
-    ensures { (functions : List Function) (frame : Option Frame) → Tells frame «label».0 own (map range_view pieces.now) → has_bad_range frame «label».0 ≡ false → PutsBuilt (built_on_ranges (framed functions frame (dwarf_registers isa.now)) (code_range_view range ∷ []) (label_alone «label».0)) locations.old.items locations.new.items result }
+    ensures puts { (functions : List Function) (frame : Option Frame) → Tells frame «label».0 own (map range_view pieces.now) → has_bad_range frame «label».0 ≡ false → PutsBuilt (built_on_ranges (framed functions frame (dwarf_registers isa.now)) (code_range_view range ∷ []) (label_alone «label».0)) locations.old.items locations.new.items result }
+    ensures front { IsFront locations.old.items locations.new.items }
 {
     if !is_own(own, range.function) {
         return Ok(());

@@ -9,4 +9,4 @@ returns-clause-ok c = λ frame registers.
     let fs = c.args.addr_tr.now in
     let bytes = c.args.bytes.now in
     constant-put fs frame registers c.args.interval bytes c.args.locations.now.items c.push_copies.new.expressions.items
-    (c.in_ok-push_copies.ensures ∙ ap (λ es. map location_view es ++ copies_of fs bytes c.args.interval) c.make_room.ensures)
+    (c.in_ok-push_copies.ensures.copies ∙ ap (λ es. map location_view es ++ copies_of fs bytes c.args.interval) c.make_room.ensures)

@@ -10,16 +10,16 @@ use Rattle.dwc_expr.specs.OverIntervals.{Puts, constant}
 use Rattle.dwc_expr.proofs.OverIntervalLaws.{parts-put, parts-refused}
 use Rattle.dwc_expr.proofs.build.over_intervals.put_other.Goals as goal
 
-pub returns-then-is_bit : goal.returns-then-is_bit
-returns-then-is_bit g c =
+pub returns-then-is_bit-clause-puts : goal.returns-then-is_bit-clause-puts
+returns-then-is_bit-clause-puts g c =
     let registers : Registers = (goal.TargetIsa-dyn g c.args.isa.now).dwarf_registers c.args.isa.now.1 in
     let s : Surroundings = surroundings c.args.addr_tr.now (option_map (λ (x : Bor FunctionFrameInfo). x.now) c.args.frame_info) registers in
     let base = option_map (λ x. x.now) c.args.frame_base in
     parts-put s (c.args.interval ∷ []) c.args.locations.now.items (compiled base c.args.bytes.now) c.put_constant.new.locations.items (constant c.args.bytes.now)
     (c.is_bit.ensures c.if-is_bit.true base c.requires.free) (c.in_ok-put_constant.ensures.ok s.frame registers)
 
-pub returns-in_err-put_constant : goal.returns-in_err-put_constant
-returns-in_err-put_constant g c =
+pub returns-in_err-put_constant-clause-puts : goal.returns-in_err-put_constant-clause-puts
+returns-in_err-put_constant-clause-puts g c =
     let registers : Registers = (goal.TargetIsa-dyn g c.args.isa.now).dwarf_registers c.args.isa.now.1 in
     let s : Surroundings = surroundings c.args.addr_tr.now (option_map (λ (x : Bor FunctionFrameInfo). x.now) c.args.frame_info) registers in
     let base = option_map (λ x. x.now) c.args.frame_base in
