@@ -7,8 +7,8 @@ ghost use Rattle.dwc_isa.specs.ToldModules.{AreNames};
 use dwc_addr::{AddressTransform, Compilation, LinkageNames, ModuleMemoryOffset};
 use dwc_base::{Endian, FilePos, ModuleTranslation, StaticModuleIndex, SymbolId, Tunables};
 use dwc_clif::{
-    Architecture, CompiledFunctionMetadata, FunctionAddressMap, InstructionAddressMap,
-    InstructionMaps, TableIsa, ValueLabelsRanges,
+    Architecture, CfaUnwindInfo, CompiledFunctionMetadata, FunctionAddressMap,
+    InstructionAddressMap, InstructionMaps, TableIsa, ValueLabelsRanges,
 };
 use std::alloc::{AllocError, Global};
 use std::test::Fail;
@@ -44,6 +44,7 @@ fn compiled(
     alloc: Global,
     source: (u32, u32),
     entries: &[MapEntry],
+    frame: Option<CfaUnwindInfo>,
 ) -> Result<CompiledFunctionMetadata, AllocError> {
     let start = place(Some(source.0));
     let end = place(Some(source.1));
@@ -64,7 +65,7 @@ fn compiled(
         },
         value_labels_ranges: ValueLabelsRanges::new(alloc),
         unwind_info: None,
-        cfa_unwind_info: None,
+        cfa_unwind_info: frame,
         start_srcloc: start,
         end_srcloc: end,
     })
@@ -78,8 +79,20 @@ pub(crate) fn functions_of(
 ) -> Result<Functions, AllocError>
     ensures { IfOk result (λ functions. map length (lists functions.items) ≡ 1 ∷ []) }
 {
+    framed_functions(alloc, source, entries, None)
+}
+
+/// The same with the description of its frame, if there is one.
+pub(crate) fn framed_functions(
+    alloc: Global,
+    source: (u32, u32),
+    entries: &[MapEntry],
+    frame: Option<CfaUnwindInfo>,
+) -> Result<Functions, AllocError>
+    ensures { IfOk result (λ functions. map length (lists functions.items) ≡ 1 ∷ []) }
+{
     let mut of_module = Vec::new(alloc);
-    of_module.push((Some(SymbolId(0)), compiled(alloc, source, entries)?))?;
+    of_module.push((Some(SymbolId(0)), compiled(alloc, source, entries, frame)?))?;
     let mut functions = Vec::new(alloc);
     functions.push(of_module)?;
     Ok(functions)
@@ -113,13 +126,46 @@ fn transform_over<'a>(
     requires names { AreNames names.set_memory.now names.resolve_memory.now }
     requires sorted { All HasSortedNames modules.now }
 {
-    let mut offsets = Vec::new(alloc);
-    offsets.push(ModuleMemoryOffset::None)?;
-    let compilation = Compilation::new(
-        alloc, isa, modules, functions, None, tunables, offsets, names, 0,
-    )?;
+    let compilation = compilation_over(alloc, isa, modules, functions, tunables, names)?;
     let module = StaticModuleIndex(0);
     Ok(AddressTransform::new(alloc, &compilation, module)?)
+}
+
+/// The compilation of a module that defines one function, of which no name was made up.
+pub(crate) fn compilation_of<'a>(
+    alloc: Global,
+    isa: &TableIsa,
+    modules: &'a [ModuleTranslation<'a>],
+    functions: &'a [Vec<(Option<SymbolId>, CompiledFunctionMetadata)>],
+) -> Result<Compilation<'a>, Fail>
+    requires modules { map (λ m. m.defined_funcs) modules.now ≡ 1 ∷ [] }
+    requires functions { map length (lists functions.now) ≡ 1 ∷ [] }
+    requires sorted { All HasSortedNames modules.now }
+    ensures { IfOk result (λ c. c.translations ≡ modules.now) }
+{
+    compilation_over(alloc, isa, modules, functions, &TUNABLES, NAMES)
+}
+
+// The same with tunables and names.
+fn compilation_over<'a>(
+    alloc: Global,
+    isa: &TableIsa,
+    modules: &'a [ModuleTranslation<'a>],
+    functions: &'a [Vec<(Option<SymbolId>, CompiledFunctionMetadata)>],
+    tunables: &'a Tunables,
+    names: LinkageNames<'a>,
+) -> Result<Compilation<'a>, Fail>
+    requires modules { map (λ m. m.defined_funcs) modules.now ≡ 1 ∷ [] }
+    requires functions { map length (lists functions.now) ≡ 1 ∷ [] }
+    requires names { AreNames names.set_memory.now names.resolve_memory.now }
+    requires sorted { All HasSortedNames modules.now }
+    ensures { IfOk result (λ c. c.translations ≡ modules.now) }
+{
+    let mut offsets = Vec::new(alloc);
+    offsets.push(ModuleMemoryOffset::None)?;
+    Ok(Compilation::new(
+        alloc, isa, modules, functions, None, tunables, offsets, names, 0,
+    )?)
 }
 
 // A target.

@@ -17,6 +17,8 @@ mod module_file;
 #[cfg(test)]
 mod plain_program;
 #[cfg(test)]
+mod refusals;
+#[cfg(test)]
 mod runs;
 #[cfg(test)]
 mod stacks;

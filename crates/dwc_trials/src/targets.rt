@@ -22,19 +22,24 @@ fn common_entry(alloc: Global) -> Result<Cie, AllocError>
     })
 }
 
-#[test]
-fn target_with_frames(rt: HostRuntime) -> Result<(), Fail> {
-    let alloc = rt.alloc();
-    let cie = common_entry(alloc)?;
+/// A target of x86-64 with that entry.
+pub(crate) fn framed_target(alloc: Global) -> Result<TableIsa, AllocError> {
     let registers = Vec::new(alloc);
-    let made = TableIsa::new(
+    let cie = common_entry(alloc)?;
+    TableIsa::new(
         alloc,
         Architecture::X86_64,
         Endian::Little,
         8,
         registers,
         Some(cie),
-    )?;
+    )
+}
+
+#[test]
+fn target_with_frames(rt: HostRuntime) -> Result<(), Fail> {
+    let alloc = rt.alloc();
+    let made = framed_target(alloc)?;
     let isa: &dyn TargetIsa = &made;
     let cie = isa.create_systemv_cie(alloc)?.ok_or("no entry")?;
     assert_eq!(rt; cie.ops.as_slice(), [FrameOp::Offset(16, -8)].as_slice());

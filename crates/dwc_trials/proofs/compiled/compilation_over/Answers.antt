@@ -3,7 +3,7 @@ use Rattle.std.proofs.lemmas.List.{length-map}
 use Rattle.dwc_addr.specs.Numbers.{Compiled, function_count}
 use Rattle.dwc_addr.specs.Compilations.{lists}
 use Rattle.dwc_isa.specs.declared.memory_offset.ModuleMemoryOffset.TheVariants as memory
-use Rattle.dwc_trials.proofs.compiled.transform_over.Goals as goal
+use Rattle.dwc_trials.proofs.compiled.compilation_over.Goals as goal
 
 -- one module with one function has one
 one-function : (fs : List (List Compiled)) → map length fs ≡ 1 ∷ [] → function_count fs ≡ 1
