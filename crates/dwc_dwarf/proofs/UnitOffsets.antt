@@ -75,14 +75,22 @@ module _ (s : Sections) (h : UnitHeader) (table : List Declaration) where
       go (suc c) n (Ok (Some f, v)) read few k rest =
           subst (λ (l : Listing Fault Entry). RiseIn from end l.items) (sym (entries_from-entry s h table p v f (omega (arith, n)) read)) (more f v few k.0 k.1 rest)
 
+-- the entries of a unit whose content lies within
+all-rise : (s : Sections) (h : UnitHeader) (from end : ℕ) → IsWithin from end h.content → RiseIn from end (entries s h).items
+unfolding entries
+all-rise s h from end i = go (abbreviation_table s h.abbreviations)
+  where
+    go : (t : Result (List Declaration) Fault) → RiseIn from end (let l : Listing Fault Entry = elim t [ Err fault ↦ only_fault fault | Ok table ↦ entries_from s h table (root_place h) ] in l).items
+    go (Err fault) = tt
+    go (Ok table) = entries-rise s h table (suc (length (h.content).left)) from end (root_place h) (omega arith) i
+
 -- the entries of a unit whose content ends with it
 pub unit-rise : (s : Sections) (h : UnitHeader) → IsWithin h.offset h.end h.content → RiseIn h.offset h.end (entries s h).items
-unfolding entries
-unit-rise s h i = go (abbreviation_table s h.abbreviations)
-  where
-    go : (t : Result (List Declaration) Fault) → RiseIn h.offset h.end (let l : Listing Fault Entry = elim t [ Err fault ↦ only_fault fault | Ok table ↦ entries_from s h table (root_place h) ] in l).items
-    go (Err fault) = tt
-    go (Ok table) = entries-rise s h table (suc (length (h.content).left)) h.offset h.end (root_place h) (omega arith) i
+unit-rise s h i = all-rise s h h.offset h.end i
+
+-- no entry of a unit stands before what is behind its header
+pub content-rise : (s : Sections) (h : UnitHeader) → RiseIn (h.content).place ((h.content).place + length (h.content).left) (entries s h).items
+content-rise s h = all-rise s h (h.content).place ((h.content).place + length (h.content).left) (record { begins = omega arith; ends = refl })
 
 headers-stand : (s : Sections) (m from : ℕ) (u : Unread) → length u.left < m → from ≤ u.place → StandFrom s from (unit_headers_from u).items
 headers-stand s zero from u less le = absurd (omega (arith, less))

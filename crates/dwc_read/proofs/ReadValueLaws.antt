@@ -1,8 +1,9 @@
 -- What always holds of the entries and attributes that calls answer.
-use Rattle.std.proofs.Common.{◌≡◌, ℕ, ◌<◌, ◌≤◌, subst, sym, List, length, map, Option, Some, None, Ok, Err}
+use Rattle.std.proofs.Common.{◌≡◌, ℕ, ◌<◌, ◌≤◌, subst, sym, List, [], length, take, drop, map, Bool, true, false, Option, Some, None, Ok, Err}
+use Rattle.std.specs.Prelude.{nat_lt, if◌then◌else◌}
 use Rattle.std.specs.List.{All}
 use Rattle.std.proofs.lemmas.List.{get_or-map, length-map}
-use Rattle.std.proofs.lemmas.List.Elements.{All-take, All-drop}
+use Rattle.std.proofs.lemmas.List.Elements.{All-nil, All-take, All-drop}
 use Rattle.dwc_base.specs.declared.faults.What.TheVariants.{Entry as EntryRead}
 use Rattle.dwc_base.specs.declared.section_name.SectionName.TheVariants.{Info}
 use Rattle.dwc_base.specs.Reading.{Unread, Read, ◌>>=◌}
@@ -53,5 +54,11 @@ root-read u e bytes read = Holds-at e (lone_entry-read u u.header.content (recor
 
 -- The entry at an offset, in a section of bytes.
 pub entry-read : (u : UnitView) (offset : ℕ) (e : Entry) → All (λ b. b < 256) (u.sections.bytes Info) → lone_entry u (unread_from u offset) ≡ Ok e → IsReadEntry e
-entry-read u offset e bytes read =
-    Holds-at e (lone_entry-read u (unread_from u offset) (record { below = All-drop (λ b. b < 256) offset _ (All-take (λ b. b < 256) u.header.end (u.sections.bytes Info) bytes) })) read
+entry-read u offset e bytes read = Holds-at e (lone_entry-read u (unread_from u offset) (record { below = go (nat_lt offset (u.header.content).place) })) read
+  where
+    left : List ℕ
+    left = drop offset (take u.header.end (u.sections.bytes Info))
+
+    go : (before : Bool) → All (λ b. b < 256) (if before then [] else left)
+    go true = All-nil (λ b. b < 256)
+    go false = All-drop (λ b. b < 256) offset _ (All-take (λ b. b < 256) u.header.end (u.sections.bytes Info) bytes)

@@ -1,6 +1,6 @@
 -- Where the values of an entry's attributes end, one by one, and that its expressions stand before these ends.
-use Rattle.std.proofs.Common.{◌≡◌, ℕ, suc, ◌+◌, ◌<◌, ◌≤◌, refl, ap, subst, List, [], ◌∷◌, length, get_or, Option, Some, None, Result, Ok, Err}
-use Rattle.std.specs.Prelude.{slice_get}
+use Rattle.std.proofs.Common.{◌≡◌, ℕ, suc, ◌+◌, ◌<◌, ◌≤◌, refl, ap, sym, subst, ◌∙◌, List, [], ◌∷◌, length, get_or, Bool, true, false, Option, Some, None, Result, Ok, Err}
+use Rattle.std.specs.Prelude.{nat_lt, slice_get}
 use Rattle.dwc_base.specs.declared.faults.Flaw.{Flaw}
 use Rattle.dwc_base.specs.declared.faults.What.TheVariants.{Entry as EntryRead}
 use Rattle.dwc_base.specs.declared.section_name.SectionName.TheVariants.{Info}
@@ -18,6 +18,7 @@ use Rattle.dwc_read.specs.declared.attribute_spec.AttributeSpec.{AttributeSpec}
 use Rattle.dwc_read.specs.Lone.{unread_from, entry_found, entry_with, lone_entry}
 use Rattle.dwc_read.specs.AttributeSpecs.{spec_view}
 use Rattle.dwc_read.specs.Views.{UnitView}
+use Rattle.dwc_read.proofs.LoneLaws.{lone_entry-empty, unread_from-before, unread_from-inside}
 use Rattle.dwc_read.proofs.AttributeLaws.{specs_from, specs_from-next, drop-past}
 
 module _ (s : Sections) (h : UnitHeader) (specs : List AttributeSpec) (i : ℕ) (d : AttributeSpec) (u v : Unread) where
@@ -58,17 +59,24 @@ value_ends-fault s h offset fault read = rw (read, value_ends) refl
 
 -- ---- where expressions stand
 
--- Each expression of an entry that is read on its own has its bytes in the section at its place.
-pub lone_entry-stands : (u : UnitView) (offset : ℕ) (e : Entry) → lone_entry u (unread_from u offset) ≡ Ok e → ExpressionsStand u.sections u.header e
+at_offset-stands : (u : UnitView) (offset : ℕ) (e : Entry) → lone_entry u (unit_from u.sections u.header offset) ≡ Ok e → ExpressionsStand u.sections u.header e
 unfolding lone_entry entry_with
-lone_entry-stands u offset e read = go (abbreviation_table u.sections u.header.abbreviations) refl read
+at_offset-stands u offset e read = go (abbreviation_table u.sections u.header.abbreviations) refl read
   where
     found : (r : Read (Option Found)) → Holds (FoundStands u.sections u.header) r → (reported EntryRead Info offset r >>= λ read. entry_found offset read.0) ≡ Ok e → ExpressionsStand u.sections u.header e
     found (Err flaw) stands is = absurd (cc)
     found (Ok (None, v)) stands is = absurd (cc)
     found (Ok (Some f, v)) stands is = let same : f.entry ≡ e = cc in subst (ExpressionsStand u.sections u.header) same ((stands.held).0).expressions
 
-    go : (t : Result (List Declaration) Fault) → abbreviation_table u.sections u.header.abbreviations ≡ t → (t >>= λ table. entry_with u table (unread_from u offset)) ≡ Ok e → ExpressionsStand u.sections u.header e
+    go : (t : Result (List Declaration) Fault) → abbreviation_table u.sections u.header.abbreviations ≡ t → (t >>= λ table. entry_with u table (unit_from u.sections u.header offset)) ≡ Ok e → ExpressionsStand u.sections u.header e
     go (Err fault) known is = absurd (cc)
     go (Ok table) known is =
-        found (entry_at u.sections u.header table 0 (unread_from u offset)) (entry_at-stands u.sections u.header table known 0 (unread_from u offset) (record { same = refl })) is
+        found (entry_at u.sections u.header table 0 (unit_from u.sections u.header offset)) (entry_at-stands u.sections u.header table known 0 (unit_from u.sections u.header offset) (record { same = refl })) is
+
+-- Each expression of an entry that is read on its own has its bytes in the section at its place.
+pub lone_entry-stands : (u : UnitView) (offset : ℕ) (e : Entry) → lone_entry u (unread_from u offset) ≡ Ok e → ExpressionsStand u.sections u.header e
+lone_entry-stands u offset e read = go (nat_lt offset (u.header.content).place) refl
+  where
+    go : (before : Bool) → nat_lt offset (u.header.content).place ≡ before → ExpressionsStand u.sections u.header e
+    go true before = absurd (lone_entry-empty u (unread_from u offset) e (unread_from-before u offset before) read)
+    go false inside = at_offset-stands u offset e (ap (lone_entry u) (sym (unread_from-inside u offset inside)) ∙ read)

@@ -1,5 +1,5 @@
 -- An entry on its own: the root of a unit, or what stands at any of its places.
-use Rattle.std.specs.Prelude.{◌≡◌, ℕ, List, [], Option, Some, None, Result, Ok, Err}
+use Rattle.std.specs.Prelude.{◌≡◌, ℕ, nat_lt, if◌then◌else◌, List, [], Option, Some, None, Result, Ok, Err}
 use Rattle.dwc_base.specs.declared.section_name.SectionName.TheVariants.{Info}
 use Rattle.dwc_base.specs.declared.faults.What.TheVariants.{Entry as EntryRead}
 use Rattle.dwc_base.specs.Reading.{Unread, ◌>>=◌}
@@ -9,9 +9,14 @@ use Rattle.dwc_dwarf.specs.Entries.{Entry, Found, entry_at}
 use Rattle.dwc_dwarf.specs.ExpressionPlaces.{unit_from}
 use Rattle.dwc_read.specs.Views.{UnitView}
 
--- what is unread of a unit from an offset of .debug_info on
+-- What is unread of a unit's entries from an offset of .debug_info on: nothing before the first of them, which stands behind the header,
+-- and from the unit's end on. (DWARF 4 and 5, section 7.5.)
 abbrev pub unread_from : UnitView → ℕ → Unread
-unread_from u offset = unit_from u.sections u.header offset
+unread_from u offset = record {
+  order = u.sections.order;
+  place = offset;
+  left = if nat_lt offset (u.header.content).place then [] else (unit_from u.sections u.header offset).left;
+}
 
 -- What is unread from an offset on is a cursor's; none where nothing is.
 abbrev pub IsUnread : Unread → Option Unread → Type 0

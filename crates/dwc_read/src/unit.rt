@@ -60,7 +60,7 @@ impl<'d> Unit<'d> {
     ghost use Rattle.dwc_read.specs.EntriesSeen.{StartsAt, entry_view};
     ghost use Rattle.dwc_read.specs.Links.{linked};
     ghost use Rattle.dwc_read.specs.Lone.{lone_entry, unread_from, IsUnread};
-    ghost use Rattle.dwc_dwarf.specs.ExpressionPlaces.{value_ends, expression_place};
+    ghost use Rattle.dwc_dwarf.specs.ExpressionPlaces.{unit_from, value_ends, expression_place};
     ghost use Rattle.std.specs.Prelude.{◌≢◌, Some, Err, option_map, slice_get};
     ghost use Rattle.std.specs.Option.{unwrap_or};
     ghost use Rattle.dwc_base.specs.declared.section_name.SectionName.TheVariants.{Info};
@@ -313,8 +313,9 @@ impl<'d> Unit<'d> {
     /// The entry at an offset of `.debug_info`, at depth 0, whether or not the entries that come one after another come
     /// upon that place.
     ///
-    /// Answers `Read` with the table's offset where the unit's abbreviation table cannot be read, and `Read` or `Unsupported`
-    /// with the given offset where no entry stands there before the unit's end.
+    /// Answers `Read` with the table's offset where the unit's abbreviation table cannot be read, `Read` with the given offset where
+    /// that is not in the unit's entries, which begin behind its header and end with it, and `Read` or `Unsupported` with the given
+    /// offset where no entry stands there before the unit's end.
     pub fn entry_at(&self, alloc: Global, offset: u64) -> Result<Entry<'d>, ReadFault>
         ensures { GivesOrFault entry_view (lone_entry self.now (unread_from self.now offset)) result }
     {
@@ -341,14 +342,24 @@ impl<'d> Unit<'d> {
         ensures { result ≡ slice_get (value_ends self.now.sections self.now.header offset) number }
     {
         match self.table.flaw {
-            None => entry_end(self, &self.table.table, number, self.unread_from(offset)?),
+            None => entry_end(self, &self.table.table, number, self.unit_from(offset)?),
             Some(_) => None,
         }
     }
 
-    // What is unread of the unit from an offset of `.debug_info` on; None where nothing is.
+    // What is unread of the unit's entries from an offset of `.debug_info` on; None where nothing is.
     fn unread_from(&self, offset: u64) -> Option<Cursor<'d>>
         ensures { IsUnread (unread_from self.now offset) result }
+    {
+        if offset < self.content().place() as u64 {
+            return None;
+        }
+        self.unit_from(offset)
+    }
+
+    // What is unread of the unit from an offset of `.debug_info` on; None where nothing is.
+    fn unit_from(&self, offset: u64) -> Option<Cursor<'d>>
+        ensures { IsUnread (unit_from self.now.sections self.now.header offset) result }
     {
         let bytes = front_of(self.sections.bytes(SectionName::Info), self.header.end);
         if offset >= bytes.len() as u64 {
