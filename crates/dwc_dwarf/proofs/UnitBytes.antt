@@ -49,7 +49,7 @@ module _ (order : Endian) (bytes : List ℕ) where
       go true = tt
       go false = passed-of size u h
 
-  number_at-of : (size : ℕ) (u : Unread) → IsOf order bytes u → Holds LeavesOf (number_at size u)
+  pub number_at-of : (size : ℕ) (u : Unread) → IsOf order bytes u → Holds LeavesOf (number_at size u)
   unfolding number_at
   number_at-of size u h = of-seen _ (bytes_at size u) (bytes_at-of size u h)
 
@@ -65,7 +65,7 @@ module _ (order : Endian) (bytes : List ℕ) where
       go None = tt
       go (Some n) = fitting (nat_lt n.0 (2 ^ 64)) n.0 n.1
 
-  sleb_at-of : (u : Unread) → IsOf order bytes u → Holds LeavesOf (sleb_at u)
+  pub sleb_at-of : (u : Unread) → IsOf order bytes u → Holds LeavesOf (sleb_at u)
   unfolding sleb_at
   sleb_at-of u h = record { held = go (sleb_value u.left) }
     where

@@ -4,6 +4,7 @@ pub mod NamedLaws
 pub mod NumberLaws
 pub mod CodeLaws
 pub mod TableLaws
+pub mod NumberedLaws
 pub mod AttributeLaws
 pub mod StepLaws
 pub mod LinkLaws

@@ -7,6 +7,7 @@ pub mod Skips
 pub mod Tables
 pub mod Codes
 pub mod UnitTables
+pub mod KnownTables
 pub mod ValuesSeen
 pub mod Forms
 pub mod EntriesSeen

@@ -1,18 +1,19 @@
 //! Abbreviation tables: which attributes the entries of a unit have. (DWARF 4 and 5, section 7.5.3.)
-ghost use Rattle.std.specs.Prelude.{◌≡◌, Some, map, option_map, IfOk};
+ghost use Rattle.std.specs.Prelude.{◌≡◌, ℕ, List, Some, drop, map, option_map, IfOk};
 ghost use Rattle.dwc_base.specs.Cursors.{Gives, GivesOrMemory};
 ghost use Rattle.dwc_base.specs.Reading.{items_at};
 ghost use Rattle.dwc_base.specs.Abbreviations.{implicit_at, attribute_spec_at, declaration_behind as behind_code, declaration_at};
 ghost use Rattle.dwc_read.specs.AttributeSpecs.{spec_view};
 ghost use Rattle.dwc_read.specs.Skips.{AreSkips};
 ghost use Rattle.dwc_read.specs.Tables.{declaration_view};
+ghost use Rattle.dwc_read.specs.KnownTables.{AreNumbered};
 
 use crate::attribute_spec::AttributeSpec;
 use crate::declaration::Declaration;
 use crate::skips::note_skips;
 use dwc_base::constants::{DW_CHILDREN_yes, DW_FORM_implicit_const};
 use dwc_base::{Cursor, Flaw, NotRead};
-use std::alloc::Global;
+use std::alloc::{AllocError, Global};
 
 // The value of an implicit constant, which stands in the declaration.
 #[tactic(auto, unfolding(dwc_base::specs::Abbreviations::implicit_at))]
@@ -113,4 +114,42 @@ pub fn declarations(alloc: Global, cursor: &mut Cursor<'_>) -> Result<Vec<Declar
         table.push(found)?;
     }
     Ok(table)
+}
+
+// Declarations that were read one behind another: where each begins, and what is behind them; and the flaw for which reading ended
+// before a code 0, if there is one.
+#[derive(Drop)]
+pub struct Numbered {
+    pub starts: Vec<usize>,
+    pub declarations: Vec<Declaration>,
+    pub flaw: Option<Flaw>,
+}
+
+// The declarations from a place on, up to the code 0.
+pub fn numbered_declarations(alloc: Global, mut cursor: Cursor<'_>) -> Result<Numbered, AllocError>
+    ensures { IfOk result (λ n. (bytes : List ℕ) → cursor.entry.left ≡ drop cursor.entry.place bytes → AreNumbered cursor.entry.order bytes n) }
+{
+    let mut starts = Vec::new(alloc);
+    let mut declarations = Vec::new(alloc);
+    loop {
+        starts.push(cursor.place())?;
+        match next_declaration(alloc, &mut cursor) {
+            Ok(Some(found)) => declarations.push(found)?,
+            Ok(None) => {
+                return Ok(Numbered {
+                    starts,
+                    declarations,
+                    flaw: None,
+                });
+            }
+            Err(NotRead::Flawed(flaw)) => {
+                return Ok(Numbered {
+                    starts,
+                    declarations,
+                    flaw: Some(flaw),
+                });
+            }
+            Err(NotRead::OutOfMemory) => return Err(AllocError),
+        }
+    }
 }

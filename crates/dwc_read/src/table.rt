@@ -1,113 +1,91 @@
 //! An abbreviation table, its declarations found by their codes.
-ghost use Rattle.std.specs.Prelude.{◌≡◌, ℕ, map, option_map, slice_get, IfOk};
-ghost use Rattle.std.specs.Ordering.{nat_cmp};
-ghost use Rattle.std.specs.BTreeMap.{get};
+ghost use Rattle.std.specs.Prelude.{◌≡◌, drop, map, option_map};
 ghost use Rattle.dwc_base.specs.Abbreviations.{declaration_of};
-ghost use Rattle.dwc_read.specs.Codes.{counts_from, place_from};
 ghost use Rattle.dwc_read.specs.Tables.{declaration_view};
 
+use crate::chain::{Chain, item};
 use crate::declaration::Declaration;
-use std::alloc::{AllocError, Global};
-use std::collections::BTreeMap;
 use std::marker::Model;
+use std::rc::Rc;
 
-// An abbreviation table. Where the codes count from 1, as compilers give them, a code is a place; else `places` has the
-// first place of each code.
+// An abbreviation table: the declarations of a chain from a place on. So tables that end alike share what they have in common.
 #[derive(Drop)]
 pub struct Table {
-    declarations: Vec<Declaration>,
-    counted: bool,
-    places: BTreeMap<u64, usize>,
+    chain: Rc<Chain>,
+    start: usize,
 }
 
 impl Model for Table {
-    ghost use Rattle.std.specs.Prelude.{List, map};
-    ghost use Rattle.std.specs.Ordering.{nat_cmp};
-    ghost use Rattle.std.specs.BTreeMap.{get};
+    ghost use Rattle.std.specs.Prelude.{List, drop};
     ghost use Rattle.dwc_base.specs.Abbreviations as table;
-    ghost use Rattle.dwc_read.specs.Tables.{declaration_view};
-    ghost use Rattle.dwc_read.specs.Codes.{table_code, IsIndexed};
+    ghost use Rattle.dwc_read.specs.Codes.{table_code};
 
     ghost Value = { List table.Declaration };
 
     ghost coded = { table_code };
 
-    ghost view = { λ t. map declaration_view t.declarations.items };
-
-    ghost invariant = { λ t. IsIndexed t.counted (map declaration_view t.declarations.items) (get nat_cmp t.places) };
+    ghost view = { λ t. drop t.start t.chain.value };
 }
 
 impl Table {
-    // The table of some declarations.
-    pub fn new(alloc: Global, declarations: Vec<Declaration>) -> Result<Table, AllocError>
-        ensures { IfOk result (λ t. t ≡ map declaration_view declarations.items) }
+    // The table of a chain's declarations from a place on.
+    pub fn new(chain: Rc<Chain>, start: usize) -> Table
+        ensures { result ≡ drop start chain.value }
     {
-        let counted = is_counted(&declarations);
-        let places = if counted {
-            BTreeMap::new(alloc)
-        } else {
-            places_of(alloc, &declarations)?
-        };
-        Ok(Table {
-            declarations,
-            counted,
-            places,
-        })
+        Table { chain, start }
     }
 
     // The declaration of a code: of two, the first.
     pub fn declaration(&self, code: u64) -> Option<&Declaration>
         ensures { option_map (λ d. declaration_view d.now) result ≡ declaration_of code self.now }
     {
-        if !self.counted {
-            let place = self.places.get(&code)?;
-            return item(&self.declarations, *place);
+        if self.start == 0 {
+            return self.chain.declaration(code);
         }
-        if code == 0 {
-            return None;
-        }
-        item(&self.declarations, code as usize - 1)
+        found_behind(&self.chain, self.start, code)
     }
 
     // The declarations in their order.
     pub fn declarations(&self) -> &[Declaration]
         ensures { map declaration_view result.now ≡ self.now }
     {
-        self.declarations.as_slice()
+        behind(self.chain.declarations(), self.start)
     }
 }
 
-// The declaration at a place.
-fn item(declarations: &[Declaration], place: usize) -> Option<&Declaration>
-    ensures { option_map (λ d. declaration_view d.now) result ≡ slice_get (map declaration_view declarations.now) place }
+// The declarations from a place on.
+fn behind(declarations: &[Declaration], start: usize) -> &[Declaration]
+    ensures { map declaration_view result.now ≡ drop start (map declaration_view declarations.now) }
 {
-    declarations.get(place)
+    if start > declarations.len() {
+        return &[];
+    }
+    let (_, behind) = declarations.split_at(start);
+    behind
 }
 
-// Whether the codes count from 1.
-fn is_counted(declarations: &[Declaration]) -> bool
-    ensures { result ≡ counts_from 1 (map declaration_view declarations.now) }
+// The declaration of a code in a chain from a place on. Only where the first of all stands before the place are those behind it gone
+// through.
+#[inline(never)]
+fn found_behind(chain: &Chain, start: usize, code: u64) -> Option<&Declaration>
+    ensures { option_map (λ d. declaration_view d.now) result ≡ declaration_of code (drop start chain.now) }
 {
-    for (i, declaration) in declarations.iter().enumerate() {
-        if declaration.code != i as u64 + 1 {
-            return false;
+    if let Some(place) = chain.place(code)
+        && place >= start
+    {
+        return item(chain.declarations(), place);
+    }
+    first_of(behind(chain.declarations(), start), code)
+}
+
+// The first declaration of a code.
+fn first_of(declarations: &[Declaration], code: u64) -> Option<&Declaration>
+    ensures { option_map (λ d. declaration_view d.now) result ≡ declaration_of code (map declaration_view declarations.now) }
+{
+    for declaration in declarations {
+        if declaration.code == code {
+            return Some(declaration);
         }
     }
-    true
-}
-
-// The first place of each code.
-fn places_of(
-    alloc: Global,
-    declarations: &[Declaration],
-) -> Result<BTreeMap<u64, usize>, AllocError>
-    ensures { IfOk result (λ m. (code : ℕ) → get nat_cmp m code ≡ place_from 0 (map declaration_view declarations.now) code) }
-{
-    let mut places = BTreeMap::new(alloc);
-    let mut k = declarations.len();
-    while k > 0 {
-        k -= 1;
-        places.insert(declarations[k].code, k)?;
-    }
-    Ok(places)
+    None
 }

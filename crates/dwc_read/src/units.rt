@@ -6,7 +6,7 @@ ghost use Rattle.dwc_read.specs.Faults.{GivesNextOrMemory};
 
 use crate::fault::reported;
 use crate::headers::next_header;
-use crate::unit_table::{LastTable, shared_table};
+use crate::unit_table::{KnownTables, shared_table};
 use crate::{ReadFault, Sections, Unit};
 use dwc_base::{Cursor, SectionName, What};
 use std::alloc::Global;
@@ -17,8 +17,8 @@ use std::marker::Model;
 pub struct Units<'d> {
     sections: Sections<'d>,
     headers: Cursor<'d>,
-    // The abbreviation table that was read last, which the next unit may share.
-    last_table: Option<LastTable>,
+    // The abbreviation tables that were read, which the next unit may share; None before the first unit.
+    tables: Option<KnownTables>,
 }
 
 impl<'d> Model for Units<'d> {
@@ -29,11 +29,11 @@ impl<'d> Model for Units<'d> {
 
     ghost coded = { units_code };
 
-    ghost use Rattle.dwc_read.specs.UnitTables.{IsLast};
+    ghost use Rattle.dwc_read.specs.KnownTables.{AreKnownIf};
 
     ghost view = { λ u. record { sections = u.sections; headers = unit_headers_from u.headers } };
 
-    ghost invariant = { λ u. IsLast u.sections u.last_table };
+    ghost invariant = { λ u. AreKnownIf u.sections u.tables };
 }
 
 impl<'d> Units<'d> {
@@ -46,7 +46,7 @@ impl<'d> Units<'d> {
         Units {
             sections,
             headers,
-            last_table: None,
+            tables: None,
         }
     }
 
@@ -58,8 +58,8 @@ impl<'d> Units<'d> {
         &self.sections
     }
 
-    /// The next unit, if there is one, with its abbreviation table. (DWARF 4 and 5, sections 7.5.1 and 7.5.3.) The table that was
-    /// read last is kept, and is not read again for the units behind that share it.
+    /// The next unit, if there is one, with its abbreviation table. (DWARF 4 and 5, sections 7.5.1 and 7.5.3.) The tables that
+    /// were read are kept, and are not read again for the units behind that share them or an end of them.
     ///
     /// Answers `Read` with the unit's offset where no unit header stands there, and `Unsupported` with it where the unit is of
     /// the 64-bit format, of a version other than 2 to 5, a type unit, or of an address size other than 4 and 8. At the
@@ -74,7 +74,13 @@ impl<'d> Units<'d> {
         match next_header(&mut ahead) {
             Ok(Some(header)) => {
                 let offset = header.abbreviations;
-                let table = shared_table(alloc, &self.sections, offset, &mut self.last_table)?;
+                let table = shared_table(
+                    alloc,
+                    &self.sections,
+                    &self.headers,
+                    offset,
+                    &mut self.tables,
+                )?;
                 self.headers = ahead;
                 Ok(Some(Unit::new(self.sections.again(), header, table)))
             }

@@ -1,8 +1,15 @@
-use Rattle.dwc_read.specs.UnitTables.{IsLast}
-use Rattle.std.proofs.Common.{Some}
+use Rattle.std.proofs.Common.{◌≡◌, sym, subst, ◌∙◌, Some}
+use Rattle.dwc_read.specs.KnownTables.{AreKnown, AreKnownIf}
+use Rattle.dwc_read.proofs.unit_table.shared_table.Goals.{in-Some, in-None+in_ok-known-in-None}
 use Rattle.dwc_read.proofs.unit_table.shared_table.Goals as goal
 
-pub returns-clause-table : goal.returns-clause-table
-returns-clause-table c =
-    let last : IsLast c.args.sections.now (Some c.in-Some.known) = rw c.in-Some.is at c.requires in
-    c.in_ok-shared.ensures c.args.sections.now c.args.offset (rw c.if-known-offset.true at last)
+pub next_table-table-requires : goal.next_table-table-requires
+next_table-table-requires c =
+    let s = c.args.sections.now in
+    elim c.match-take.branch [
+      | in-Some w ↦
+          let there : c.args.tables.now ≡ Some w.in-Some.known = sym c.take.ensures.value ∙ w.in-Some.is in
+          let known : AreKnownIf s (Some w.in-Some.known) = subst (AreKnownIf s) there c.requires in
+          subst (AreKnown s) (sym w.known-is) known
+      | in-None+in_ok-known-in-None w ↦ subst (AreKnown s) (sym w.known-is) (w.in_ok-known-in-None.ensures s)
+    ]

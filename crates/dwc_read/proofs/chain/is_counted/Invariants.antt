@@ -1,7 +1,7 @@
 use Rattle.std.proofs.Common.{◌≡◌, ◌+◌, drop, map}
 use Rattle.dwc_read.specs.Codes.{counts_from}
 use Rattle.dwc_read.specs.Tables.{declaration_view}
-use Rattle.dwc_read.proofs.table.is_counted.Given as goal
+use Rattle.dwc_read.proofs.chain.is_counted.Given as goal
 
 -- they count where what is left goes on counting
 abbrev pub invariant-loop-i : goal.invariant-loop-i

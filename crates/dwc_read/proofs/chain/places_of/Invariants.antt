@@ -2,7 +2,7 @@ use Rattle.std.proofs.Common.{◌≡◌, ℕ, ◌≤◌, drop, length, map, nat_
 use Rattle.std.specs.BTreeMap.{get}
 use Rattle.dwc_read.specs.Codes.{place_from}
 use Rattle.dwc_read.specs.Tables.{declaration_view}
-use Rattle.dwc_read.proofs.table.places_of.Given as goal
+use Rattle.dwc_read.proofs.chain.places_of.Given as goal
 
 -- the index has the places of the declarations from k on
 abbrev pub invariant-loop-k : goal.invariant-loop-k

@@ -4,7 +4,7 @@ use Rattle.dwc_base.specs.Abbreviations.{Declaration, declaration_of}
 use Rattle.dwc_read.specs.Codes.{place_from}
 use Rattle.dwc_read.specs.Tables.{declaration_view}
 use Rattle.dwc_read.proofs.CodeLaws.{place_from-first, declaration_of-below, declaration_of-counted}
-use Rattle.dwc_read.proofs.table.Table.declaration.Goals as goal
+use Rattle.dwc_read.proofs.chain.Chain.declaration.Goals as goal
 
 pub returns-in_err-place : goal.returns-in_err-place
 returns-in_err-place c =
