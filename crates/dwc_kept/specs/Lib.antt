@@ -7,3 +7,4 @@ pub mod ReadGraphs
 pub mod KeptUnits
 pub mod ReadUnits
 pub mod RangeCode
+pub mod ShownLists

@@ -17,6 +17,7 @@ mod read_unit;
 mod reading;
 mod references;
 mod required;
+mod shown_lists;
 mod walk;
 
 pub use begun::{address_said, function_begun};

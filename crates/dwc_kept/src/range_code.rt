@@ -1,9 +1,10 @@
 //! What range lists show of the code of subprograms, by the functions that their entries are in. (DWARF 4, section 2.17.3; DWARF 5,
 //! sections 2.17.3 and 7.25.)
-ghost use Rattle.std.specs.Prelude.{◌≡◌, ◌||◌, IsTrue, Some, option_map, option_to_list};
+ghost use Rattle.std.specs.Prelude.{◌≡◌, ◌||◌, IsTrue, OnOk, Some, option_map, option_to_list};
 ghost use Rattle.std.specs.List.{filter_map, flat_map};
 ghost use Rattle.dwc_dwarf.specs.Entries.{attribute};
 ghost use Rattle.dwc_dwarf.specs.Lists.{list_source};
+ghost use Rattle.dwc_dwarf.specs.RawLists.{raw_ranges};
 ghost use Rattle.dwc_rules.specs.RangeKept.{base_beside, begins_in_code, can_translate, list_shows_code, some_shows_code};
 ghost use Rattle.dwc_rules.specs.RangeRefusals.{index_fault, list_faults};
 ghost use Rattle.dwc_base.specs.Listing.{first_of};
@@ -14,7 +15,9 @@ ghost use Rattle.dwc_read.specs.ValuesSeen.{value_view};
 ghost use Rattle.dwc_tabs.specs.RangeLists.{entry_view as list_entry_view};
 ghost use Rattle.dwc_kept.specs.RangeCode.{address_fault, entry_fault, faults_left, list_place, seen_behind, told_at_list};
 ghost use Rattle.dwc_kept.specs.ReadEntries.{ReadsOrTells};
+ghost use Rattle.dwc_kept.specs.ShownLists.{KnowsLists};
 
+use crate::shown_lists::{ShownLists, note_shown, shown};
 use dwc_addr::AddressTransform;
 use dwc_base::constants::{DW_AT_low_pc, DW_AT_ranges};
 use dwc_base::{Address, SectionName, What};
@@ -146,6 +149,29 @@ fn entries_show_code(
     Ok(seen.shows_code)
 }
 
+// Whether a list at a place shows that it is of code, from what is known of its base on; its entries are read if that was not noted.
+fn whole_list_shows_code(
+    unit: &Unit<'_>,
+    section: SectionName,
+    offset: u64,
+    transform: &AddressTransform<'_>,
+    base: Option<bool>,
+    entries: &mut RangeEntries<'_>,
+    lists: &mut ShownLists,
+) -> Result<bool, ReadFault>
+    requires entries { entries.old.left ≡ raw_ranges (list_source unit.now.sections unit.now.header) (list_place section offset) }
+    requires lists { KnowsLists (list_source unit.now.sections unit.now.header) transform.now lists.old }
+    ensures lists { OnOk result (KnowsLists (list_source unit.now.sections unit.now.header) transform.now lists.new) }
+    ensures shows { ReadsOrTells (λ shows. shows ≡ some_shows_code (list_source unit.now.sections unit.now.header) transform.now base entries.old.left.items) (first_of (faults_left (list_source unit.now.sections unit.now.header) (list_place section offset) entries.old.left)) result }
+{
+    if let Some(shows_code) = shown(lists, section, base, offset) {
+        return Ok(shows_code);
+    }
+    let shows_code = entries_show_code(unit, section, offset, transform, base, entries)?;
+    note_shown(lists, section, base, offset, shows_code)?;
+    Ok(shows_code)
+}
+
 // Whether the `low_pc` beside a list is in a function, if it is an address in place.
 fn base_beside(transform: &AddressTransform<'_>, low_pc: Option<AttributeValue<'_>>) -> Option<bool>
     ensures { result ≡ base_beside transform.now (option_map value_view low_pc.entry) }
@@ -162,8 +188,11 @@ fn list_shows_code(
     entry: &Entry<'_>,
     transform: &AddressTransform<'_>,
     value: AttributeValue<'_>,
+    lists: &mut ShownLists,
 ) -> Result<bool, ReadFault>
-    ensures { ReadsOrTells (λ shows. shows ≡ list_shows_code (list_source unit.now.sections unit.now.header) transform.now (attribute DW_AT_low_pc (entry_view entry.now)) (value_view value.entry)) (first_of (list_faults (list_source unit.now.sections unit.now.header) (entry_view entry.now).offset (value_view value.entry))) result }
+    requires { KnowsLists (list_source unit.now.sections unit.now.header) transform.now lists.old }
+    ensures lists { OnOk result (KnowsLists (list_source unit.now.sections unit.now.header) transform.now lists.new) }
+    ensures shows { ReadsOrTells (λ shows. shows ≡ list_shows_code (list_source unit.now.sections unit.now.header) transform.now (attribute DW_AT_low_pc (entry_view entry.now)) (value_view value.entry)) (first_of (list_faults (list_source unit.now.sections unit.now.header) (entry_view entry.now).offset (value_view value.entry))) result }
 {
     if !is_range_list(&value) {
         return Ok(false);
@@ -174,7 +203,7 @@ fn list_shows_code(
             let mut entries = entries;
             let section = entries.section();
             let offset = entries.offset();
-            entries_show_code(unit, section, offset, transform, base, &mut entries)
+            whole_list_shows_code(unit, section, offset, transform, base, &mut entries, lists)
         }
         Err(fault) => Err(fault.at(entry.offset)),
     }
@@ -189,13 +218,16 @@ pub(crate) fn ranges_show_code(
     unit: &Unit<'_>,
     entry: &Entry<'_>,
     transform: &AddressTransform<'_>,
+    lists: &mut ShownLists,
 ) -> Result<Option<bool>, ReadFault>
-    ensures { ReadsOrTells (λ shows. shows ≡ option_map (list_shows_code (list_source unit.now.sections unit.now.header) transform.now (attribute DW_AT_low_pc (entry_view entry.now))) (attribute DW_AT_ranges (entry_view entry.now))) (first_of (flat_map (list_faults (list_source unit.now.sections unit.now.header) (entry_view entry.now).offset) (option_to_list (attribute DW_AT_ranges (entry_view entry.now))))) result }
+    requires { KnowsLists (list_source unit.now.sections unit.now.header) transform.now lists.old }
+    ensures lists { OnOk result (KnowsLists (list_source unit.now.sections unit.now.header) transform.now lists.new) }
+    ensures shows { ReadsOrTells (λ shows. shows ≡ option_map (list_shows_code (list_source unit.now.sections unit.now.header) transform.now (attribute DW_AT_low_pc (entry_view entry.now))) (attribute DW_AT_ranges (entry_view entry.now))) (first_of (flat_map (list_faults (list_source unit.now.sections unit.now.header) (entry_view entry.now).offset) (option_to_list (attribute DW_AT_ranges (entry_view entry.now))))) result }
 {
     let Some(ranges) = entry.attr(DW_AT_ranges) else {
         return Ok(None);
     };
-    let shows_code = list_shows_code(unit, entry, transform, ranges)?;
+    let shows_code = list_shows_code(unit, entry, transform, ranges, lists)?;
     Ok(Some(shows_code))
 }
 

@@ -1,16 +1,19 @@
 //! What is kept of the entries of a module as they are read, one after another.
 ghost use Rattle.std.specs.Prelude.{◌≡◌, ◌^◌, ◌<◌, ◌≤◌, ◌||◌, ◌==◌, ◌++◌, ◌∷◌, [], length, map, option_map, OnOk, IfSome, All};
 ghost use Rattle.dwc_base.specs.declared.constants.TheConstants.{DW_TAG_namespace};
+ghost use Rattle.dwc_dwarf.specs.Lists.{list_source};
 ghost use Rattle.dwc_rules.specs.EntryRules.{is_required, named_faults};
 ghost use Rattle.dwc_base.specs.Listing.{first_of};
 ghost use Rattle.dwc_read.specs.EntriesSeen.{entry_view};
 ghost use Rattle.dwc_kept.specs.ReadEntries.{ReadSoFar, none_read, last_above, with_last_at, with_entry_read, AreAmong, StandBefore, MeetsOrTells};
 ghost use Rattle.dwc_kept.specs.ReadingSeen.{reading_view};
+ghost use Rattle.dwc_kept.specs.ShownLists.{KnowsLists};
 
 use crate::graph::EntryGraph;
 use crate::last_at::LastAt;
 use crate::parts::is_part_below;
 use crate::required::is_required;
+use crate::shown_lists::ShownLists;
 use dwc_addr::AddressTransform;
 use dwc_base::constants::DW_TAG_namespace;
 use dwc_read::{Entry, ReadFault, Unit};
@@ -89,14 +92,17 @@ pub(crate) fn add_entry(
     transform: &AddressTransform<'_>,
     unit: &Unit<'_>,
     entry: &Entry<'_>,
+    lists: &mut ShownLists,
 ) -> Result<(), ReadFault>
+    requires lists { KnowsLists (list_source unit.now.sections unit.now.header) transform.now lists.old }
     requires among { AreAmong (reading_view reading.old) }
     requires before { StandBefore (entry_view entry.now).offset (reading_view reading.old) }
     ensures added { OnOk result (reading_view reading.new ≡ with_entry_read (is_required transform.now unit.now.sections unit.now.header) unit.now.header (entry_view entry.now) (reading_view reading.old)) }
     ensures small { OnOk result ((entry_view entry.now).offset < 2 ^ 32) }
+    ensures lists { OnOk result (KnowsLists (list_source unit.now.sections unit.now.header) transform.now lists.new) }
     ensures fault { MeetsOrTells (first_of (named_faults unit.now.sections unit.now.header (entry_view entry.now))) result }
 {
-    let is_required = is_required(unit, entry, transform)?;
+    let is_required = is_required(unit, entry, transform, lists)?;
     let Ok(offset) = u32::try_from(entry.offset) else {
         return Err(ReadFault::OutOfMemory);
     };

@@ -2,6 +2,7 @@
 ghost use Rattle.std.specs.Prelude.{◌≡◌, ◌<◌, ◌^◌};
 ghost use Rattle.std.specs.List.{AllZip};
 ghost use Rattle.dwc_dwarf.specs.Entries.{entries as entries_of};
+ghost use Rattle.dwc_dwarf.specs.Lists.{list_source};
 ghost use Rattle.dwc_rules.specs.EntryRules.{is_required, named_faults};
 ghost use Rattle.dwc_rules.specs.ReachedEntries.{listing_faults};
 ghost use Rattle.dwc_base.specs.Listing.{first_of};
@@ -11,10 +12,12 @@ ghost use Rattle.dwc_kept.specs.ReadGraphs.{IsModuleGraph, units_of};
 ghost use Rattle.dwc_kept.specs.ReadingSeen.{reading_view, HasRead, IsRead};
 ghost use Rattle.dwc_kept.specs.ReadUnits.{IsReadUnit};
 ghost use Rattle.dwc_kept.specs.RootsSaid.{first_said};
+ghost use Rattle.dwc_kept.specs.ShownLists.{KnowsLists};
 
 use crate::graph::EntryGraph;
 use crate::read_unit::{ReadUnit, RootEntry, is_compile_unit, root_or, table_named};
 use crate::reading::{Reading, add_entry, none_read};
+use crate::shown_lists::{ShownLists, no_lists};
 use dwc_addr::AddressTransform;
 use dwc_read::{EntryLinks, ReadFault, Unit, Units};
 use std::alloc::Global;
@@ -25,7 +28,9 @@ fn add_entries(
     transform: &AddressTransform<'_>,
     unit: &Unit<'_>,
     reading: &mut Reading,
+    lists: &mut ShownLists,
 ) -> Result<Option<RootEntry>, ReadFault>
+    requires lists { KnowsLists (list_source unit.now.sections unit.now.header) transform.now lists.old }
     requires among { AreAmong (reading_view reading.old) }
     requires before { StandBefore unit.now.header.offset (reading_view reading.old) }
     requires small { StandBefore (2 ^ 32) (reading_view reading.old) }
@@ -36,7 +41,7 @@ fn add_entries(
     let mut root = None;
     while entries.advance()? {
         let entry = entries.current();
-        add_entry(reading, transform, unit, entry)?;
+        add_entry(reading, transform, unit, entry, lists)?;
         root = root_or(root, entry);
     }
     Ok(root)
@@ -57,7 +62,8 @@ fn add_unit(
     ensures { ReadsOrTells (λ root. HasRead (with_entries_read (is_required transform.now unit.now.sections unit.now.header) unit.now.header (entries_of unit.now.sections unit.now.header).items (reading_view reading.old)) unit.now.header.end (reading_view reading.new) × (root ≡ first_said (entries_of unit.now.sections unit.now.header).items)) (first_of (listing_faults (named_faults unit.now.sections unit.now.header) (entries_of unit.now.sections unit.now.header))) result }
 {
     let mut entries = unit.links(alloc)?;
-    add_entries(&mut entries, transform, unit, reading)
+    let mut lists = no_lists(alloc);
+    add_entries(&mut entries, transform, unit, reading, &mut lists)
 }
 
 /// What is kept of the entries of a module as they are read, and its units.
