@@ -1,5 +1,6 @@
 -- The sections that are written of some units.
 use Rattle.std.specs.Prelude.{◌≡◌, ◌<◌, ◌⊎◌, ℕ, List, [], ◌∷◌, ◌++◌, length, false, None, Result, Ok, Err}
+use Rattle.std.specs.List.{All}
 use Rattle.dwc_base.specs.declared.records.Endian.{Endian}
 use Rattle.dwc_base.specs.declared.section_name.SectionName.{SectionName}
 use Rattle.dwc_base.specs.declared.section_name.SectionName.TheVariants.{Abbrev, Info, Line, Loc, Ranges, Str}
@@ -9,12 +10,13 @@ use Rattle.dwc_section.specs.declared.error.WriteError.{WriteError}
 use Rattle.dwc_unit.specs.SpelledTables.{table_bytes}
 use Rattle.dwc_write.specs.SpelledSections.{WrittenUnit, placed_unit_bytes, tables_bytes, info_bytes, lines_bytes}
 use Rattle.dwc_write.specs.SpelledRelocations.{unit_relocations, info_relocations, lines_relocations}
-use Rattle.dwc_unit.specs.GivenLines.{no_lines}
-use Rattle.dwc_unit.specs.GivenUnits.{AreWritable, GivenEntry, OrderedUnit, Places, size_of, first_uses, shapes_of, numbered, written_entries, lists_of_entries, lists_of_units}
+use Rattle.dwc_unit.specs.GivenLines.{FitsLines, no_lines}
+use Rattle.dwc_unit.specs.GivenUnits.{AreShortUnits, AreWritable, FitsOrdered, GivenEntry, OrderedUnit, Places, size_of, first_uses, shapes_of, numbered, written_entries, lists_of_entries, lists_of_units}
 use Rattle.dwc_unit.specs.declared.attributes.AttributeValue.{AttributeValue}
 use Rattle.dwc_unit.specs.declared.lists.ListPlaces.{ListPlaces}
 use Rattle.dwc_unit.specs.Lists.{ListEntry, behind_attributes, list_bytes, list_relocations, locations_in, no_lists, ranges_in}
-use Rattle.dwc_unit.specs.UsedTexts.{strings_bytes, text_places}
+use Rattle.dwc_unit.specs.TextTables.{AreTexts}
+use Rattle.dwc_unit.specs.UsedTexts.{HaveTexts, strings_bytes, text_places}
 use Rattle.dwc_write.specs.Layouts.{AllPlaces, offsets_by_number, places_of_units, places_in, written_lines, written_unit, written_units, written_tables}
 use Rattle.dwc_output.specs.FramesCarried.{others_in}
 use Rattle.dwc_dwarf.specs.TreeLaws.{have_short_expressions}
@@ -71,12 +73,24 @@ all_places order texts us = record { units = places_of_units order (size_of us) 
 abbrev pub spelled_sections : Endian → List (List ℕ) → List OrderedUnit → List OutputSection
 spelled_sections order texts us = sections_placed order (all_places order texts us) (strings_bytes texts us) us
 
--- Sections are, but for the call frames, those of some units that can be written, over a table of texts, in the writer's own spelling: no byte stands in
+-- Units over a table of texts are such that readers see all of them. Each has one root, with all its other entries below it (DWARF 4, section 2.3). Each
+-- pair of a range list or a location list begins at a symbol and is not empty, so it selects no base and ends no list (2.17.3, 2.6.2), and an
+-- expression there is as long as its length says (2.6.2). Each line sequence has a row (6.2.5). No name and no text has a zero byte, and each text that
+-- is named is one of the table (6.2.4, 7.5.4).
+pub record AreWellMade (texts : List (List ℕ)) (us : List OrderedUnit) : Type 0 where
+  pub writable : AreWritable us
+  pub units : All FitsOrdered us
+  pub lines : All (λ u. FitsLines u.lines) us
+  pub expressions : AreShortUnits us
+  pub named : HaveTexts texts us
+  pub table : AreTexts texts
+
+-- Sections are, but for the call frames, those of some units that are well made, over a table of texts, in the writer's own spelling: no byte stands in
 -- them that no reading comes to, no list and no line table has more than what is read of it.
 pub record AreSpelled (order : Endian) (sections : List OutputSection) : Type 0 where
   pub texts : List (List ℕ)
   pub given : List OrderedUnit
-  pub writable : AreWritable given
+  pub made : AreWellMade texts given
   pub is : others_in sections ≡ spelled_sections order texts given
 
 -- the bytes of a section

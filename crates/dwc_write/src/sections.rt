@@ -21,7 +21,7 @@ ghost use Rattle.dwc_unit.specs.Lists.{AreWithin};
 ghost use Rattle.dwc_write.specs.declared.layout.UnitLayout.{UnitLayout};
 ghost use Rattle.dwc_write.specs.LayoutViews.{IsLaidOut, IsNoting, places_view, whole_view};
 ghost use Rattle.dwc_write.specs.Layouts.{AreShort, offset_of_text, offsets_by_number, places_in, places_of_units, units_length};
-ghost use Rattle.dwc_write.specs.SpelledOutput.{AreSpelled, IsRefusal, IsRefusalAmong, WritesLists, WritesOne, all_units, entries_alone, section_unless_empty, sections_of, spelled_sections};
+ghost use Rattle.dwc_write.specs.SpelledOutput.{AreSpelled, AreWellMade, IsRefusal, IsRefusalAmong, WritesLists, WritesOne, all_units, entries_alone, section_unless_empty, sections_of, spelled_sections};
 ghost use Rattle.dwc_section.specs.RisingRelocations.{DoRelocationsRise};
 ghost use Rattle.dwc_write.specs.ReadBack.{ReadsBack};
 ghost use Rattle.dwc_write.specs.SectionViews.{sections_view};
@@ -127,6 +127,7 @@ fn write_unit_sections(
     requires units { AreWritable (map ordered dwarf.units.units.items) }
     requires texts { HaveTexts dwarf.strings (map ordered dwarf.units.units.items) }
     ensures sections { IfOk result (λ s. map section_view s.items ≡ spelled_sections order dwarf.strings (map ordered dwarf.units.units.items)) }
+    ensures made { IfOk result (λ s. AreWellMade dwarf.strings (map ordered dwarf.units.units.items)) }
     ensures sound { IfOk result (λ s. All (IsSound order) (map section_view s.items)) }
     ensures rise { IfOk result (λ s. All DoRelocationsRise (map section_view s.items)) }
     ensures read { IfOk result (λ s. ReadsBack order (map ordered dwarf.units.units.items) (map section_view s.items)) }

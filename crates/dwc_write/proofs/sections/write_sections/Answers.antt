@@ -31,7 +31,7 @@ returns-clause-spelled c =
     let ds = descriptions_given c.args.frames in
     let whole : all ≡ xs ++ frame_section_if c.args.order size common ds = c.in_ok-push_optional.ensures.section ∙ ap (λ fs. xs ++ fs) c.in_ok-section.ensures.sections in
     let others : All IsOther xs = subst (All IsOther) (sym c.in_ok-sections.ensures.sections) (all-others c.args.order table us) in
-    record { texts = table; given = us; writable = c.requires.units; is = ap others_in whole ∙ others-with c.args.order size common ds xs others ∙ c.in_ok-sections.ensures.sections }
+    record { texts = table; given = us; made = c.in_ok-sections.ensures.made; is = ap others_in whole ∙ others-with c.args.order size common ds xs others ∙ c.in_ok-sections.ensures.sections }
 
 pub returns-clause-rise : goal.returns-clause-rise
 returns-clause-rise c =

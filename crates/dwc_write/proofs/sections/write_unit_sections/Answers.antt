@@ -10,7 +10,7 @@ use Rattle.dwc_output.specs.TreeReading.{CarriesTrees}
 use Rattle.dwc_section.specs.declared.error.WriteError.TheVariants.{OutOfMemory}
 use Rattle.dwc_unit.specs.GivenTrees.{given_trees}
 use Rattle.dwc_write.specs.ReadBack.{ReadsBack}
-use Rattle.dwc_write.specs.SpelledOutput.{WrittenSections, sections_of}
+use Rattle.dwc_write.specs.SpelledOutput.{AreWellMade, WrittenSections, sections_of}
 use Rattle.dwc_section.specs.RisingRelocations.{DoRelocationsRise}
 use Rattle.dwc_unit.specs.GivenUnits.{OrderedUnit, ordered, size_of}
 use Rattle.dwc_base.specs.declared.section_name.SectionName.TheVariants.{Str}
@@ -189,6 +189,21 @@ returns-clause-sections c =
     let strings = (rw (c.as_slice-texts.ensures) at c.in_ok-strings.ensures.ok) ∙ ap (λ (bytes : List ℕ). record { order = c.args.order; name = Str; body = bytes; relocations = [] }) body in
     if-ok-weaker c.gather.result _ _
     (λ s h. h ∙ ap (λ (w : WrittenSections). sections_of w c.in_ok-strings.strings) all ∙ ap (λ (w : Writing). sections_of (all_units c.args.order (whole_view c.deref-2.result.now c.deref-3.result.now) us) w) strings ∙ output-sections c.args.order _ table us are c.requires.units) c.gather.ensures.sections
+
+pub returns-clause-made : goal.returns-clause-made
+returns-clause-made c =
+    let us = map ordered c.args.dwarf.units.units.items in
+    let table = c.args.dwarf.strings in
+    let all = sym (tested table c.as_slice-units.result.now c.args.dwarf.units.units.items c.are_short_lists.result c.as_slice-units.ensures.value c.are_short_lists.ensures) ∙ c.if-not-are_short_lists.false in
+    let made : AreWellMade table us = record {
+      writable = c.requires.units;
+      units = c.in_ok-sections.ensures.fits;
+      lines = c.in_ok-sections.ensures.lines;
+      expressions = short-trees table us all;
+      named = c.requires.texts;
+      table = c.know_texts.ensures;
+    } in
+    if-ok-weaker c.gather.result _ _ (λ s h. made) c.gather.ensures.sections
 
 pub returns-clause-sound : goal.returns-clause-sound
 returns-clause-sound c =
