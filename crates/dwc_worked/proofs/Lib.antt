@@ -83,3 +83,4 @@ pub mod RefusedPaths
 pub mod WholeRun
 pub mod DeviceCases
 pub mod SplitSectionCases
+pub mod SpelledCases
