@@ -22,6 +22,7 @@ use Rattle.dwc_map.specs.MapViews.{map_file_view}
 use Rattle.dwc_cli.specs.Inputs.{Paths, all_paths, Input, all_files, wasm_modules, Loaded, loaded, compilation_of, shared_in, BadMap, bad_map}
 use Rattle.dwc_cli.specs.Printed.{printed, is_plain, is_line}
 use Rattle.dwc_cli.specs.RunStatus.{AreWhole, Files, Rose, Appended, IsOneOf, WasmCause, MapCause, refusal_status, PassesLimit, LoadedCauses, IsValid}
+use Rattle.dwc_cli.specs.Calls.{Call, last_opened}
 use Rattle.dwc_cli.specs.Edge.{IsReadFile}
 use Rattle.dwc_cli.specs.Failures.{failure_status, carrying_status, usage_message, fault_message, length_message, write_message, failure_message, line_of}
 
@@ -137,15 +138,17 @@ GivesText input status = (read : Loaded) → loaded input ≡ Some read → Give
 abbrev pub Tells : ℕ → ℕ → Option (List ℕ) → Option (List ℕ) → List ℕ → Type 0
 Tells faults_before faults_now before now message = Rose faults_before faults_now ⊎ Appended before now (line_of message)
 
--- The message of a run by its status: of wrong words, of a file by its path, which is one of the words, and of the text. Those of
--- a refused input and of want of memory are open, but that they have no line feed: only a path may have one.
-pub record IsMessage (words : List (List ℕ)) (status : ℕ) (message : List ℕ) : Type 0 where
+-- The message of a run by its status: of wrong words, of a file by its path, which is one of the words and the one that was opened last, and of
+-- the text. Those of a refused input and of want of memory are open, but that they have no line feed: only a path may have one.
+pub record IsMessage (words : List (List ℕ)) (asked : List Call) (status : ℕ) (message : List ℕ) : Type 0 where
   pub usage : status ≡ 2 → message ≡ usage_message
   pub fault : status ≡ 3 → Any (λ path. message ≡ fault_message path) words
   pub too_long : status ≡ 4 → Any (λ path. message ≡ length_message path) words
+  pub fault_named : status ≡ 3 → option_map fault_message (last_opened asked) ≡ Some message
+  pub length_named : status ≡ 4 → option_map length_message (last_opened asked) ≡ Some message
   pub write : status ≡ 8 → message ≡ write_message
   pub line : (status ≡ 3 → ⊥) → (status ≡ 4 → ⊥) → is_line message ≡ true
 
 -- one line with such a message was appended, unless the sink failed
-abbrev pub Complains : List (List ℕ) → ℕ → ℕ → ℕ → Option (List ℕ) → Option (List ℕ) → Type 0
-Complains words status faults_before faults_now before now = (message : List ℕ) × IsMessage words status message × Tells faults_before faults_now before now message
+abbrev pub Complains : List (List ℕ) → List Call → ℕ → ℕ → ℕ → Option (List ℕ) → Option (List ℕ) → Type 0
+Complains words asked status faults_before faults_now before now = (message : List ℕ) × IsMessage words asked status message × Tells faults_before faults_now before now message

@@ -1,6 +1,8 @@
 -- What the edge of the program says of words, loaded files and written texts.
 use Rattle.std.specs.Prelude.{◌≡◌, ℕ, ◌<◌, ◌≤◌, List, ◌++◌, map, take, length, string_bytes, Option, Some, IfSome, Result, Ok, Err}
 use Rattle.std.specs.FinMap as finite
+use Rattle.dwc_cli.specs.declared.loading.LoadError.{LoadError}
+use Rattle.dwc_cli.specs.declared.loading.LoadError.TheVariants.{Read, TooLong, OutOfMemory}
 use Rattle.dwc_cli.specs.declared.words.Paths.{Paths as NamedPaths}
 use Rattle.dwc_cli.specs.Inputs.{Paths}
 use Rattle.dwc_cli.specs.RunStatus.{Files, Appended, most_bytes}
@@ -20,6 +22,13 @@ IsReadFile files path bytes = IsFile files path bytes × (length bytes ≤ most_
 -- where the files are told, the file at a path is longer than a run reads
 abbrev pub IsLongFile : Option Files → List ℕ → Type 0
 IsLongFile files path = IfSome files (λ told. (bytes : List ℕ) × (finite.get told path ≡ Some bytes) × (most_bytes < length bytes))
+
+-- the status of a run in which the loading of a file answers so
+abbrev pub load_status : {T : Type 0} → Result T LoadError → ℕ
+load_status (Ok x) = 0
+load_status (Err Read) = 3
+load_status (Err TooLong) = 4
+load_status (Err OutOfMemory) = 9
 
 -- what was taken grew by a front of some text
 abbrev pub AppendsFront : Option (List ℕ) → Option (List ℕ) → List ℕ → Type 0

@@ -36,6 +36,10 @@ paths_of (m ∷ w ∷ ws) = if list_all is_path (m ∷ w ∷ ws) then Some (reco
 abbrev pub all_paths : Paths → List (List ℕ)
 all_paths p = p.map_path ∷ p.module_paths
 
+-- the paths that some words name, in the order of reading
+abbrev pub named_paths : List (List ℕ) → List (List ℕ)
+named_paths words = unwrap_or (option_map all_paths (paths_of words)) []
+
 -- the bytes of the named files
 pub record Input : Type 0 where
   pub map_bytes : List ℕ

@@ -1,11 +1,12 @@
 -- A source and a sink in memory, as values.
-use Rattle.std.specs.Prelude.{◌≡◌, ℕ, ◌+◌, ◌-◌, ◌^◌, ◌==◌, min, max, nat_lt, Bool, ◌&&◌, List, [], ◌++◌, take, drop, length, string_bytes, String, Vec, if◌then◌else◌, Option, Some, None, option_map, is_some, slice_get, replicate}
+use Rattle.std.specs.Prelude.{◌≡◌, ℕ, ◌+◌, ◌-◌, ◌^◌, ◌==◌, min, max, nat_lt, Bool, true, false, ◌&&◌, List, [], ◌∷◌, ◌++◌, take, drop, length, string_bytes, String, Vec, if◌then◌else◌, Option, Some, None, option_map, is_some, slice_get, replicate}
 use Rattle.std.specs.Global.{Global}
 use Rattle.std.specs.List.{list_any}
 use Rattle.std.specs.Ordering.{nat_cmp}
 use Rattle.std.specs.Cmp.Lexicographic.{slice_cmp}
 use Rattle.std.specs.FinMap as finite
 use Rattle.dwc_cli.specs.declared.opened.Opened.{Opened}
+use Rattle.dwc_cli.specs.Calls.{Call, opening, passing}
 use Rattle.dwc_cli.specs.RunStatus.{Files}
 
 -- one more, up to the type's end
@@ -30,13 +31,14 @@ pub record MemorySource : Type 0 where
   pub longest : ℕ
   pub calls : ℕ
   pub faults : ℕ
+  pub asked : List Call
 
 -- a file's path and its bytes
 abbrev pub file_entry : String Global × Vec ℕ Global → List ℕ × List ℕ
 file_entry file = (string_bytes file.0, file.1.items)
 
 abbrev pub memory_source : List (List ℕ × List ℕ) → List ℕ → MemorySource
-memory_source files failing = record { files = files; failing = failing; left = None; taken = 0; longest = 0; calls = 0; faults = 0 }
+memory_source files failing = record { files = files; failing = failing; left = None; taken = 0; longest = 0; calls = 0; faults = 0; asked = [] }
 
 -- the files by their paths; of two equal paths the first counts
 abbrev pub files_of : List (List ℕ × List ℕ) → Files
@@ -56,7 +58,7 @@ abbrev pub opens : MemorySource → List ℕ → Option (List ℕ)
 opens s path = if next_fails s.calls s.failing then None else finite.find (slice_cmp nat_cmp) path s.files
 
 abbrev pub after_open : MemorySource → List ℕ → MemorySource
-after_open s path = record s { left = opens s path; taken = 0; calls = one_more s.calls; faults = if is_some (opens s path) then s.faults else one_more s.faults }
+after_open s path = record s { left = opens s path; taken = 0; calls = one_more s.calls; faults = if is_some (opens s path) then s.faults else one_more s.faults; asked = opening path (is_some (opens s path)) ∷ s.asked }
 
 -- what a read of the next call goes on from, none where it fails
 abbrev pub reads_from : MemorySource → Option (List ℕ)
@@ -71,10 +73,10 @@ GivesFront (Some rest) old None buffer (Some n) = ⊥
 GivesFront (Some rest) old (Some now) buffer (Some n) = (n ≡ min (length buffer) (length rest)) × (take n buffer ≡ take n rest) × (now ≡ drop n rest)
 
 abbrev pub after_giving : MemorySource → ℕ → Option (List ℕ) → MemorySource
-after_giving s room None = record s { calls = one_more s.calls; faults = one_more s.faults }
+after_giving s room None = record s { calls = one_more s.calls; faults = one_more s.faults; asked = passing 0 false ∷ s.asked }
 after_giving s room (Some rest) =
     let count = min room (length rest) in
-    record s { left = Some (drop count rest); taken = more s.taken count; longest = max s.longest (more s.taken count); calls = one_more s.calls }
+    record s { left = Some (drop count rest); taken = more s.taken count; longest = max s.longest (more s.taken count); calls = one_more s.calls; asked = passing count true ∷ s.asked }
 
 -- a read into a buffer with so much room gives as many bytes as are left and fit it
 abbrev pub after_read : MemorySource → ℕ → MemorySource
@@ -88,23 +90,24 @@ pub record PlainFiles : Type 0 where
   pub taken : ℕ
   pub longest : ℕ
   pub faults : ℕ
+  pub asked : List Call
 
 abbrev pub plain_files : List (List ℕ × List ℕ) → PlainFiles
-plain_files files = record { files = files; left = None; taken = 0; longest = 0; faults = 0 }
+plain_files files = record { files = files; left = None; taken = 0; longest = 0; faults = 0; asked = [] }
 
 -- the bytes of the first file with a path
 abbrev pub plain_bytes : PlainFiles → List ℕ → Option (List ℕ)
 plain_bytes s path = finite.find (slice_cmp nat_cmp) path s.files
 
 abbrev pub after_plain_open : PlainFiles → List ℕ → PlainFiles
-after_plain_open s path = record s { left = plain_bytes s path; taken = 0; faults = if is_some (plain_bytes s path) then s.faults else one_more s.faults }
+after_plain_open s path = record s { left = plain_bytes s path; taken = 0; faults = if is_some (plain_bytes s path) then s.faults else one_more s.faults; asked = opening path (is_some (plain_bytes s path)) ∷ s.asked }
 
 -- a read into a buffer with so much room, of what is left
 abbrev pub after_plain_giving : PlainFiles → ℕ → Option (List ℕ) → PlainFiles
-after_plain_giving s room None = record s { faults = one_more s.faults }
+after_plain_giving s room None = record s { faults = one_more s.faults; asked = passing 0 false ∷ s.asked }
 after_plain_giving s room (Some rest) =
     let count = min room (length rest) in
-    record s { left = Some (drop count rest); taken = more s.taken count; longest = max s.longest (more s.taken count) }
+    record s { left = Some (drop count rest); taken = more s.taken count; longest = max s.longest (more s.taken count); asked = passing count true ∷ s.asked }
 
 abbrev pub after_plain_read : PlainFiles → ℕ → PlainFiles
 after_plain_read s room = after_plain_giving s room s.left
@@ -117,23 +120,24 @@ pub record LongFiles : Type 0 where
   pub taken : ℕ
   pub longest : ℕ
   pub faults : ℕ
+  pub asked : List Call
 
 abbrev pub long_files : ℕ → LongFiles
-long_files file_length = record { file_length = file_length; zeros = None; taken = 0; longest = 0; faults = 0 }
+long_files file_length = record { file_length = file_length; zeros = None; taken = 0; longest = 0; faults = 0; asked = [] }
 
 -- what is left of an opened file
 abbrev pub zeros_left : Option ℕ → Option (List ℕ)
 zeros_left zeros = option_map (λ count. replicate count 0) zeros
 
-abbrev pub after_long_open : LongFiles → LongFiles
-after_long_open s = record s { zeros = Some s.file_length; taken = 0 }
+abbrev pub after_long_open : LongFiles → List ℕ → LongFiles
+after_long_open s path = record s { zeros = Some s.file_length; taken = 0; asked = opening path true ∷ s.asked }
 
 -- a read into a buffer with so much room, where so many zeros are left
 abbrev pub after_long_giving : LongFiles → ℕ → Option ℕ → LongFiles
-after_long_giving s room None = record s { faults = one_more s.faults }
+after_long_giving s room None = record s { faults = one_more s.faults; asked = passing 0 false ∷ s.asked }
 after_long_giving s room (Some zeros) =
     let count = min room zeros in
-    record s { zeros = Some (zeros - count); taken = more s.taken count; longest = max s.longest (more s.taken count) }
+    record s { zeros = Some (zeros - count); taken = more s.taken count; longest = max s.longest (more s.taken count); asked = passing count true ∷ s.asked }
 
 abbrev pub after_long_read : LongFiles → ℕ → LongFiles
 after_long_read s room = after_long_giving s room s.zeros
@@ -147,9 +151,10 @@ pub record MemorySink : Type 0 where
   pub failing : List ℕ
   pub calls : ℕ
   pub faults : ℕ
+  pub asked : List Call
 
 abbrev pub memory_sink : ℕ → ℕ → List ℕ → MemorySink
-memory_sink room most failing = record { written = []; room = room; most = most; failing = failing; calls = 0; faults = 0 }
+memory_sink room most failing = record { written = []; room = room; most = most; failing = failing; calls = 0; faults = 0; asked = [] }
 
 -- how many bytes of a piece fit: at most `most`, and `room` in all
 abbrev pub fitting : MemorySink → List ℕ → ℕ
@@ -163,8 +168,8 @@ takes s piece =
     else (if nat_lt 0 (length piece) && (fitting s piece == 0) then None else Some (fitting s piece))
 
 abbrev pub after_taking : MemorySink → List ℕ → Option ℕ → MemorySink
-after_taking s piece None = record s { calls = one_more s.calls; faults = one_more s.faults }
-after_taking s piece (Some n) = record s { written = s.written ++ take n piece; calls = one_more s.calls }
+after_taking s piece None = record s { calls = one_more s.calls; faults = one_more s.faults; asked = passing 0 false ∷ s.asked }
+after_taking s piece (Some n) = record s { written = s.written ++ take n piece; calls = one_more s.calls; asked = passing n true ∷ s.asked }
 
 abbrev pub after_write : MemorySink → List ℕ → MemorySink
 after_write s piece = after_taking s piece (takes s piece)

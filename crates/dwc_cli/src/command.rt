@@ -1,5 +1,7 @@
 //! The top call.
 ghost use Rattle.std.specs.Prelude.{◌≡◌, ◌≢◌, ◌<◌, ◌≤◌, ◌↔◌, ◌∷◌, [], map, string_bytes};
+ghost use Rattle.dwc_cli.specs.Calls.{ReadsFront, WritesUntilFailure};
+ghost use Rattle.dwc_cli.specs.Inputs.{named_paths};
 ghost use Rattle.dwc_cli.specs.RunStatus.{Rose, Succeeds, UsageCause, MissingCause, InputCauses, PrefixWritten, IsStatus, IsOneOf, RunsWell, most_bytes};
 ghost use Rattle.dwc_cli.specs.Failures.{failure_status, failure_message, IsOnOneLine};
 ghost use Rattle.dwc_cli.specs.Answers.{Tells, Complains};
@@ -44,10 +46,16 @@ pub fn run<S: Source, K: Sink, E: Sink>(
     ensures status { IsStatus result }
     ensures complete { RunsWell (S.files source.old) (map string_bytes words.now) (S.faults source.old) (S.faults source.new) (K.faults out.old) (K.faults out.new) → IsOneOf (0 ∷ 9 ∷ []) result }
 
+    // The files that the words name are opened, each once and in order, and read to their ends at most. A call that fails is the last one.
+    ensures opened { ReadsFront result (named_paths (map string_bytes words.now)) (S.faults source.old) (S.faults source.new) (S.asked source.old) (S.asked source.new) }
+    ensures ends { WritesUntilFailure result (K.faults out.old) (K.faults out.new) (K.asked out.old) (K.asked out.new) }
+
     // What is written besides.
     ensures silent { result ≢ 0 → result ≢ 8 → K.written out.new ≡ K.written out.old }
-    ensures said { result ≢ 0 → Complains (map string_bytes words.now) result (E.faults err.old) (E.faults err.new) (E.written err.old) (E.written err.new) }
+    ensures not_asked { result ≢ 0 → result ≢ 8 → K.asked out.new ≡ K.asked out.old }
+    ensures said { result ≢ 0 → Complains (map string_bytes words.now) (S.asked source.new) result (E.faults err.old) (E.faults err.new) (E.written err.old) (E.written err.new) }
     ensures quiet { result ≡ 0 → E.written err.new ≡ E.written err.old }
+    ensures err_not_asked { result ≡ 0 → E.asked err.new ≡ E.asked err.old }
 {
     let Some(paths) = read_words(words) else {
         return refuse(err, &Failure::Usage);

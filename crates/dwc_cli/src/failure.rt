@@ -1,5 +1,6 @@
 //! Why a run does not end well, and the line that says so.
 ghost use Rattle.std.specs.Prelude.{◌≡◌, ◌++◌, OnOk};
+ghost use Rattle.dwc_cli.specs.Calls.{EndsAtFailure};
 ghost use Rattle.dwc_cli.specs.Devices.{HasCause};
 ghost use Rattle.dwc_cli.specs.RunStatus.{Appended};
 ghost use Rattle.dwc_cli.specs.Failures.{status_code, failure_status, failure_message, line_of, IsOnOneLine};
@@ -150,6 +151,7 @@ pub(crate) fn complain<E: Sink>(err: &mut E, failure: &Failure<'_>) -> Result<()
     ensures line { OnOk result (Appended (E.written err.old) (E.written err.new) (line_of (failure_message failure.now))) }
     ensures one_line { IsOnOneLine failure.now }
     ensures cause { HasCause (E.faults err.old) (E.faults err.new) result }
+    ensures ends { EndsAtFailure (E.asked err.old) (E.asked err.new) result }
 {
     let (message, detail) = failure.message();
     write_all(err, b"dwarfcarry: ")?;

@@ -1,12 +1,14 @@
 //! The real files and streams: the trusted edge. The system tells nothing of content, so as a source and a sink they tell none
 //! either. What they claim is their counts, and that they pass on what a file gives and what a stream takes.
-ghost use Rattle.std.specs.Prelude.{◌≡◌, ◌↔◌, None, Option, IsNone, IsErr, OnErr, IfOk};
+ghost use Rattle.std.specs.Prelude.{◌≡◌, ◌↔◌, [], ◌∷◌, None, Option, IsNone, IsErr, OnErr, IfOk};
 ghost use Rattle.std.specs.Option.{option_and_then};
 ghost use Rattle.std.specs.Io.{ReadsAtMost};
 ghost use Rattle.std.specs.Io.KnownBytes.{ReadConsumes, WriteAppends};
+ghost use Rattle.dwc_cli.specs.Calls.{opening_of, passing_of};
 ghost use Rattle.dwc_cli.specs.Devices.{HasCause, Counts, Takes, TakesMost, Opens, Accepts, FailsWhileShut};
 ghost use Rattle.dwc_cli.specs.RunStatus.{Files};
 
+use crate::asked::Asked;
 use crate::calls::count_taken;
 use crate::sink::Sink;
 use crate::source::{Failed, Source};
@@ -23,6 +25,7 @@ pub struct HostSource<R: Files + Drop> {
     taken: u64,
     longest: u64,
     faults: u64,
+    asked: Asked,
 }
 
 impl<R: Files + Drop> HostSource<R> {
@@ -32,6 +35,7 @@ impl<R: Files + Drop> HostSource<R> {
         ensures taken { result.taken ≡ 0 }
         ensures longest { result.longest ≡ 0 }
         ensures faults { result.faults ≡ 0 }
+        ensures asked { result.asked.calls ≡ [] }
     {
         HostSource {
             system,
@@ -39,6 +43,7 @@ impl<R: Files + Drop> HostSource<R> {
             taken: 0,
             longest: 0,
             faults: 0,
+            asked: Asked::new(),
         }
     }
 }
@@ -54,12 +59,15 @@ impl<R: Files + Drop> Source for HostSource<R> {
 
     ghost faults = { λ s. s.faults };
 
+    ghost asked = { λ s. s.asked.calls };
+
     fn open_file(&mut self, path: &str) -> Result<(), Failed>
         ensures files { ◌≡◌ {A = Option Files} None None }
         ensures opened { Opens None path.now None result }
         ensures taken { self.new.taken ≡ 0 }
         ensures longest { self.new.longest ≡ self.old.longest }
         ensures cause { HasCause self.old.faults self.new.faults result }
+        ensures asked { self.new.asked.calls ≡ opening_of path.now result ∷ self.old.asked.calls }
         ensures counts { Counts self.old.faults self.new.faults result }
         ensures shut { OnErr result (IsNone self.new.file) }
     {
@@ -67,8 +75,10 @@ impl<R: Files + Drop> Source for HostSource<R> {
         self.file = fs::open(&self.system, path).ok();
         if self.file.is_none() {
             self.faults = self.faults.saturating_add(1);
+            self.asked.note_opening(path, false);
             return Err(Failed);
         }
+        self.asked.note_opening(path, true);
         Ok(())
     }
 
@@ -80,6 +90,7 @@ impl<R: Files + Drop> Source for HostSource<R> {
         ensures taken { Takes self.old.taken self.new.taken result }
         ensures longest { TakesMost self.old.longest self.new.longest self.new.taken result }
         ensures cause { HasCause self.old.faults self.new.faults result }
+        ensures asked { self.new.asked.calls ≡ passing_of result ∷ self.old.asked.calls }
         ensures counts { Counts self.old.faults self.new.faults result }
         ensures no_file { IsNone self.old.file → IsErr result }
         ensures open { IsNone self.new.file ↔ IsNone self.old.file }
@@ -88,10 +99,12 @@ impl<R: Files + Drop> Source for HostSource<R> {
         match read_from(&mut self.file, buf) {
             Ok(count) => {
                 count_taken(&mut self.taken, &mut self.longest, count);
+                self.asked.note_passing(count);
                 Ok(count)
             }
             Err(failed) => {
                 self.faults = self.faults.saturating_add(1);
+                self.asked.note_failing();
                 Err(failed)
             }
         }
@@ -117,6 +130,7 @@ fn read_from<F: Read>(file: &mut Option<F>, buf: &mut [u8]) -> Result<usize, Fai
 pub struct HostSink<W: Write + Drop> {
     stream: W,
     faults: u64,
+    asked: Asked,
 }
 
 impl<W: Write + Drop> HostSink<W> {
@@ -124,8 +138,13 @@ impl<W: Write + Drop> HostSink<W> {
     pub fn new(stream: W) -> HostSink<W>
         ensures stream { result.stream ≡ stream }
         ensures faults { result.faults ≡ 0 }
+        ensures asked { result.asked.calls ≡ [] }
     {
-        HostSink { stream, faults: 0 }
+        HostSink {
+            stream,
+            faults: 0,
+            asked: Asked::new(),
+        }
     }
 }
 
@@ -134,16 +153,23 @@ impl<W: Write + Drop> Sink for HostSink<W> {
 
     ghost faults = { λ s. s.faults };
 
+    ghost asked = { λ s. s.asked.calls };
+
     fn write(&mut self, bytes: &[u8]) -> Result<usize, Failed>
         ensures bytes { Accepts None None bytes.now result }
         ensures taken { WriteAppends (W.contents self.old.stream) (W.contents self.new.stream) result bytes.now }
         ensures cause { HasCause self.old.faults self.new.faults result }
+        ensures asked { self.new.asked.calls ≡ passing_of result ∷ self.old.asked.calls }
         ensures counts { Counts self.old.faults self.new.faults result }
     {
         match self.stream.write(bytes) {
-            Ok(count) if count > 0 || bytes.is_empty() => Ok(count),
+            Ok(count) if count > 0 || bytes.is_empty() => {
+                self.asked.note_passing(count);
+                Ok(count)
+            }
             _ => {
                 self.faults = self.faults.saturating_add(1);
+                self.asked.note_failing();
                 Err(Failed)
             }
         }

@@ -2,6 +2,7 @@
 #![tactic(auto)]
 
 mod answer;
+mod asked;
 mod backward;
 mod calls;
 mod carrying;

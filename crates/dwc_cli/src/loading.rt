@@ -1,7 +1,8 @@
 //! Reading a whole file.
-ghost use Rattle.std.specs.Prelude.{◌≡◌, ◌<◌, ◌≤◌, ◌↔◌, max, length, Err, IfOk};
+ghost use Rattle.std.specs.Prelude.{◌≡◌, ◌<◌, ◌≤◌, ◌↔◌, [], ◌∷◌, max, length, Some, Err, IfOk};
+ghost use Rattle.dwc_cli.specs.Calls.{last_opened, ReadsPaths};
 ghost use Rattle.dwc_cli.specs.RunStatus.{Rose, most_bytes};
-ghost use Rattle.dwc_cli.specs.Edge.{IsFile, IsLongFile};
+ghost use Rattle.dwc_cli.specs.Edge.{IsFile, IsLongFile, load_status};
 
 use crate::source::{Failed, Source};
 use std::alloc::{AllocError, Global};
@@ -57,6 +58,8 @@ pub(crate) fn load<S: Source>(
     ensures longest { S.longest source.new ≡ max (S.longest source.old) (S.taken source.new) }
     ensures long_file { result ≡ Err LoadError.TooLong → IsLongFile (S.files source.old) path.now }
     ensures read_fault { result ≡ Err LoadError.Read → Rose (S.faults source.old) (S.faults source.new) }
+    ensures asked { ReadsPaths (load_status result) (path.now ∷ []) (S.faults source.old) (S.faults source.new) (S.asked source.old) (S.asked source.new) }
+    ensures last { last_opened (S.asked source.new) ≡ Some path.now }
     ensures files { S.files source.new ≡ S.files source.old }
     ensures later { S.faults source.old ≤ S.faults source.new }
 {

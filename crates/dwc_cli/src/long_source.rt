@@ -1,11 +1,13 @@
 //! A source of files as long as one likes.
-ghost use Rattle.std.specs.Prelude.{◌≡◌, ◌↔◌, ℕ, List, min, take, length, replicate, Option, None, IsOk, IsSome};
+ghost use Rattle.std.specs.Prelude.{◌≡◌, ◌↔◌, ℕ, List, ◌∷◌, min, take, length, replicate, Option, None, IsOk, IsSome};
 ghost use Rattle.std.specs.Io.{ReadsAtMost};
 ghost use Rattle.std.specs.Io.KnownBytes.{ReadConsumes};
+ghost use Rattle.dwc_cli.specs.Calls.{opening_of, passing_of};
 ghost use Rattle.dwc_cli.specs.Devices.{HasCause, Takes, TakesMost, Opens, FailsWhileShut};
 ghost use Rattle.dwc_cli.specs.RunStatus.{Files};
 ghost use Rattle.dwc_cli.specs.Memory.{zeros_left};
 
+use crate::asked::Asked;
 use crate::calls::count_taken;
 use crate::source::{Failed, Source};
 use std::marker::Model;
@@ -18,6 +20,7 @@ pub struct LongSource {
     taken: u64,
     longest: u64,
     faults: u64,
+    asked: Asked,
 }
 
 impl Model for LongSource {
@@ -25,7 +28,7 @@ impl Model for LongSource {
 
     ghost Value = { LongFiles };
 
-    ghost view = { λ s. record { file_length = s.file_length; zeros = s.zeros; taken = s.taken; longest = s.longest; faults = s.faults } };
+    ghost view = { λ s. record { file_length = s.file_length; zeros = s.zeros; taken = s.taken; longest = s.longest; faults = s.faults; asked = s.asked.calls } };
 }
 
 impl LongSource {
@@ -41,6 +44,7 @@ impl LongSource {
             taken: 0,
             longest: 0,
             faults: 0,
+            asked: Asked::new(),
         }
     }
 }
@@ -58,6 +62,8 @@ impl Source for LongSource {
 
     ghost faults = { λ s. s.faults };
 
+    ghost asked = { λ s. s.asked };
+
     /// Opens a file of zero bytes, whatever the path. It does not fail.
     fn open_file(&mut self, path: &str) -> Result<(), Failed>
         ensures files { ◌≡◌ {A = Option Files} None None }
@@ -65,12 +71,13 @@ impl Source for LongSource {
         ensures taken { self.new.taken ≡ 0 }
         ensures longest { self.new.longest ≡ self.old.longest }
         ensures cause { HasCause self.old.faults self.new.faults result }
-        ensures value { self.new ≡ after_long_open self.old }
+        ensures asked { self.new.asked ≡ opening_of path.now result ∷ self.old.asked }
+        ensures value { self.new ≡ after_long_open self.old path.now }
         ensures opens { IsOk result }
     {
-        let _ = path;
         self.zeros = Some(self.file_length);
         self.taken = 0;
+        self.asked.note_opening(path, true);
         Ok(())
     }
 
@@ -83,16 +90,19 @@ impl Source for LongSource {
         ensures taken { Takes self.old.taken self.new.taken result }
         ensures longest { TakesMost self.old.longest self.new.longest self.new.taken result }
         ensures cause { HasCause self.old.faults self.new.faults result }
+        ensures asked { self.new.asked ≡ passing_of result ∷ self.old.asked }
         ensures value { self.new ≡ after_long_read self.old (length buf.old) }
         ensures reads { IsOk result ↔ IsSome self.old.zeros }
     {
         let Some(zeros) = self.zeros else {
             self.faults = self.faults.saturating_add(1);
+            self.asked.note_failing();
             return Err(Failed);
         };
         let count = fill_zeros(zeros, buf);
         self.zeros = Some(zeros - count as u64);
         count_taken(&mut self.taken, &mut self.longest, count);
+        self.asked.note_passing(count);
         Ok(count)
     }
 }

@@ -1,8 +1,10 @@
 //! A sink in memory.
-ghost use Rattle.std.specs.Prelude.{◌≡◌, Some, IfOk};
+ghost use Rattle.std.specs.Prelude.{◌≡◌, ◌∷◌, Some, IfOk};
 ghost use Rattle.std.specs.Result.{result_ok};
+ghost use Rattle.dwc_cli.specs.Calls.{passing_of};
 ghost use Rattle.dwc_cli.specs.Devices.{HasCause, Accepts};
 
+use crate::asked::Asked;
 use crate::calls::count_call;
 use crate::sink::Sink;
 use crate::source::Failed;
@@ -18,6 +20,7 @@ pub struct MemSink {
     failing: Vec<u64>,
     calls: u64,
     faults: u64,
+    asked: Asked,
 }
 
 impl Model for MemSink {
@@ -26,7 +29,7 @@ impl Model for MemSink {
 
     ghost Value = { MemorySink };
 
-    ghost view = { λ s. record { written = s.taken.items; room = s.room; most = s.most; failing = s.failing.items; calls = s.calls; faults = s.faults } };
+    ghost view = { λ s. record { written = s.taken.items; room = s.room; most = s.most; failing = s.failing.items; calls = s.calls; faults = s.faults; asked = s.asked.calls } };
 
     ghost invariant = { λ s. (vec_len s.taken ≤ s.room) × (s.room ≤ vec_capacity s.taken) };
 }
@@ -52,6 +55,7 @@ impl MemSink {
             failing,
             calls: 0,
             faults: 0,
+            asked: Asked::new(),
         })
     }
 
@@ -70,10 +74,13 @@ impl Sink for MemSink {
 
     ghost faults = { λ s. s.faults };
 
+    ghost asked = { λ s. s.asked };
+
     /// Takes as many bytes as fit. It fails where the call is one that is to fail, or none of some bytes fit.
     fn write(&mut self, bytes: &[u8]) -> Result<usize, Failed>
         ensures bytes { Accepts (Some self.old.written) (Some self.new.written) bytes.now result }
         ensures cause { HasCause self.old.faults self.new.faults result }
+        ensures asked { self.new.asked ≡ passing_of result ∷ self.old.asked }
         ensures value { self.new ≡ after_write self.old bytes.now }
         ensures takes { result_ok result ≡ takes self.old bytes.now }
     {
@@ -81,9 +88,11 @@ impl Sink for MemSink {
         let count = bytes.len().min(self.most).min(self.room - self.taken.len());
         if fails || (!bytes.is_empty() && count == 0) {
             self.faults = self.faults.saturating_add(1);
+            self.asked.note_failing();
             return Err(Failed);
         }
         self.taken.extend_from_slice(&bytes[..count]).unwrap();
+        self.asked.note_passing(count);
         Ok(count)
     }
 }

@@ -1,13 +1,15 @@
 //! A source in memory.
-ghost use Rattle.std.specs.Prelude.{◌≡◌, ◌↔◌, map, length, Some, None, IsOk, IsSome, IsNone, if◌then◌else◌};
+ghost use Rattle.std.specs.Prelude.{◌≡◌, ◌↔◌, ◌∷◌, map, length, Some, None, IsOk, IsSome, IsNone, if◌then◌else◌};
 ghost use Rattle.std.specs.Io.{ReadsAtMost};
 ghost use Rattle.std.specs.Io.KnownBytes.{ReadConsumes};
 ghost use Rattle.std.specs.Ordering.{nat_cmp};
 ghost use Rattle.std.specs.Cmp.Lexicographic.{slice_cmp};
 ghost use Rattle.std.specs.FinMap as finite;
+ghost use Rattle.dwc_cli.specs.Calls.{opening_of, passing_of};
 ghost use Rattle.dwc_cli.specs.Devices.{HasCause, Takes, TakesMost, Opens, FailsWhileShut};
 ghost use Rattle.dwc_cli.specs.Memory.{file_entry, files_of, left_of, GivesFront};
 
+use crate::asked::Asked;
 use crate::calls::{count_call, count_taken};
 use crate::memory_files::{give, open_at};
 use crate::opened::Opened;
@@ -25,6 +27,7 @@ pub struct MemSource {
     longest: u64,
     calls: u64,
     faults: u64,
+    asked: Asked,
 }
 
 impl Model for MemSource {
@@ -33,7 +36,7 @@ impl Model for MemSource {
 
     ghost Value = { MemorySource };
 
-    ghost view = { λ s. record { files = map file_entry s.files.items; failing = s.failing.items; left = left_of s.files.items s.opened; taken = s.taken; longest = s.longest; calls = s.calls; faults = s.faults } };
+    ghost view = { λ s. record { files = map file_entry s.files.items; failing = s.failing.items; left = left_of s.files.items s.opened; taken = s.taken; longest = s.longest; calls = s.calls; faults = s.faults; asked = s.asked.calls } };
 }
 
 impl MemSource {
@@ -53,6 +56,7 @@ impl MemSource {
             longest: 0,
             calls: 0,
             faults: 0,
+            asked: Asked::new(),
         }
     }
 }
@@ -70,6 +74,8 @@ impl Source for MemSource {
 
     ghost faults = { λ s. s.faults };
 
+    ghost asked = { λ s. s.asked };
+
     /// Opens the first file with the path. It fails where the call is one that is to fail, or no file has the path.
     #[tactic(auto, using(crate::proofs::MemoryFiles::found))]
     fn open_file(&mut self, path: &str) -> Result<(), Failed>
@@ -78,6 +84,7 @@ impl Source for MemSource {
         ensures taken { self.new.taken ≡ 0 }
         ensures longest { self.new.longest ≡ self.old.longest }
         ensures cause { HasCause self.old.faults self.new.faults result }
+        ensures asked { self.new.asked ≡ opening_of path.now result ∷ self.old.asked }
         ensures value { self.new ≡ after_open self.old path.now }
         ensures opens { IsOk result ↔ IsSome (opens self.old path.now) }
     {
@@ -86,8 +93,10 @@ impl Source for MemSource {
         self.taken = 0;
         if self.opened.is_none() {
             self.faults = self.faults.saturating_add(1);
+            self.asked.note_opening(path, false);
             return Err(Failed);
         }
+        self.asked.note_opening(path, true);
         Ok(())
     }
 
@@ -100,15 +109,18 @@ impl Source for MemSource {
         ensures taken { Takes self.old.taken self.new.taken result }
         ensures longest { TakesMost self.old.longest self.new.longest self.new.taken result }
         ensures cause { HasCause self.old.faults self.new.faults result }
+        ensures asked { self.new.asked ≡ passing_of result ∷ self.old.asked }
         ensures value { self.new ≡ after_read self.old (length buf.old) }
         ensures reads { IsOk result ↔ IsSome (reads_from self.old) }
     {
         let fails = count_call(&mut self.calls, &self.failing);
         let Some(count) = giving(fails, &self.files, &mut self.opened, buf) else {
             self.faults = self.faults.saturating_add(1);
+            self.asked.note_failing();
             return Err(Failed);
         };
         count_taken(&mut self.taken, &mut self.longest, count);
+        self.asked.note_passing(count);
         Ok(count)
     }
 }

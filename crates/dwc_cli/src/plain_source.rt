@@ -1,10 +1,12 @@
 //! A source in memory that fails only where it must.
-ghost use Rattle.std.specs.Prelude.{◌≡◌, ◌↔◌, map, length, Some, IsOk, IsSome};
+ghost use Rattle.std.specs.Prelude.{◌≡◌, ◌↔◌, ◌∷◌, map, length, Some, IsOk, IsSome};
 ghost use Rattle.std.specs.Io.{ReadsAtMost};
 ghost use Rattle.std.specs.Io.KnownBytes.{ReadConsumes};
+ghost use Rattle.dwc_cli.specs.Calls.{opening_of, passing_of};
 ghost use Rattle.dwc_cli.specs.Devices.{HasCause, Takes, TakesMost, Opens, FailsWhileShut};
 ghost use Rattle.dwc_cli.specs.Memory.{file_entry, files_of, left_of};
 
+use crate::asked::Asked;
 use crate::calls::count_taken;
 use crate::memory_files::{give, open_at};
 use crate::opened::Opened;
@@ -19,6 +21,7 @@ pub struct PlainSource {
     taken: u64,
     longest: u64,
     faults: u64,
+    asked: Asked,
 }
 
 impl Model for PlainSource {
@@ -27,7 +30,7 @@ impl Model for PlainSource {
 
     ghost Value = { PlainFiles };
 
-    ghost view = { λ s. record { files = map file_entry s.files.items; left = left_of s.files.items s.opened; taken = s.taken; longest = s.longest; faults = s.faults } };
+    ghost view = { λ s. record { files = map file_entry s.files.items; left = left_of s.files.items s.opened; taken = s.taken; longest = s.longest; faults = s.faults; asked = s.asked.calls } };
 }
 
 impl PlainSource {
@@ -44,6 +47,7 @@ impl PlainSource {
             taken: 0,
             longest: 0,
             faults: 0,
+            asked: Asked::new(),
         }
     }
 }
@@ -61,6 +65,8 @@ impl Source for PlainSource {
 
     ghost faults = { λ s. s.faults };
 
+    ghost asked = { λ s. s.asked };
+
     /// Opens the first file with the path. It fails where no file has the path.
     #[tactic(auto, using(crate::proofs::MemoryFiles::found))]
     fn open_file(&mut self, path: &str) -> Result<(), Failed>
@@ -69,6 +75,7 @@ impl Source for PlainSource {
         ensures taken { self.new.taken ≡ 0 }
         ensures longest { self.new.longest ≡ self.old.longest }
         ensures cause { HasCause self.old.faults self.new.faults result }
+        ensures asked { self.new.asked ≡ opening_of path.now result ∷ self.old.asked }
         ensures value { self.new ≡ after_plain_open self.old path.now }
         ensures opens { IsOk result ↔ IsSome (plain_bytes self.old path.now) }
     {
@@ -76,8 +83,10 @@ impl Source for PlainSource {
         self.taken = 0;
         if self.opened.is_none() {
             self.faults = self.faults.saturating_add(1);
+            self.asked.note_opening(path, false);
             return Err(Failed);
         }
+        self.asked.note_opening(path, true);
         Ok(())
     }
 
@@ -90,14 +99,17 @@ impl Source for PlainSource {
         ensures taken { Takes self.old.taken self.new.taken result }
         ensures longest { TakesMost self.old.longest self.new.longest self.new.taken result }
         ensures cause { HasCause self.old.faults self.new.faults result }
+        ensures asked { self.new.asked ≡ passing_of result ∷ self.old.asked }
         ensures value { self.new ≡ after_plain_read self.old (length buf.old) }
         ensures reads { IsOk result ↔ IsSome self.old.left }
     {
         let Some(count) = give(&self.files, &mut self.opened, buf) else {
             self.faults = self.faults.saturating_add(1);
+            self.asked.note_failing();
             return Err(Failed);
         };
         count_taken(&mut self.taken, &mut self.longest, count);
+        self.asked.note_passing(count);
         Ok(count)
     }
 }

@@ -1,14 +1,16 @@
 //! The printed text of sections.
-ghost use Rattle.std.specs.Prelude.{◌≡◌, ◌+◌, ◌≤◌, ◌++◌, [], map, length, take, drop, codes, Some, IfOk, OnOk, OnErr};
+ghost use Rattle.std.specs.Prelude.{◌≡◌, ◌+◌, ◌≤◌, ◌∷◌, ◌++◌, [], map, length, take, drop, codes, Some, IfOk, OnOk, OnErr};
 ghost use Rattle.std.specs.List.{flat_map};
 ghost use Rattle.std.specs.Fmt.{decimal, signed_decimal};
 ghost use Rattle.hex.specs.Hex.{encode_lower};
 ghost use Rattle.dwc_base.specs.Outputs.{relocation_view, section_view};
+ghost use Rattle.dwc_cli.specs.Calls.{passing_of, EndsAtFailure};
 ghost use Rattle.dwc_cli.specs.Devices.{HasCause, Accepts};
 ghost use Rattle.dwc_cli.specs.RunStatus.{Appended};
 ghost use Rattle.dwc_cli.specs.Edge.{AppendsFront, Prints};
 ghost use Rattle.dwc_cli.specs.Printed.{printed, space, line_feed, printed_section, printed_relocation, IsTextOfOne};
 
+use crate::asked::Asked;
 use crate::backward::{
     LINE, NAME, ROOM, begin_line, end_line, end_section_line, name_before, number_before,
     text_from, word_before,
@@ -28,6 +30,7 @@ fn flush<K: Sink>(sink: &mut K, page: &mut Page) -> Result<(), Failed>
     ensures text { Prints (K.written sink.old) page.old (K.written sink.new) page.new [] result }
     ensures empty { OnOk result (page.new ≡ []) }
     ensures cause { HasCause (K.faults sink.old) (K.faults sink.new) result }
+    ensures ends { EndsAtFailure (K.asked sink.old) (K.asked sink.new) result }
 {
     write_all(sink, page.text())?;
     page.clear();
@@ -41,6 +44,7 @@ fn make_room<K: Sink>(sink: &mut K, page: &mut Page, size: usize) -> Result<(), 
     ensures text { Prints (K.written sink.old) page.old (K.written sink.new) page.new [] result }
     ensures room { OnOk result (length page.new + size ≤ 65536) }
     ensures cause { HasCause (K.faults sink.old) (K.faults sink.new) result }
+    ensures ends { EndsAtFailure (K.asked sink.old) (K.asked sink.new) result }
 {
     if page.room() < size {
         return flush(sink, page);
@@ -52,6 +56,7 @@ fn make_room<K: Sink>(sink: &mut K, page: &mut Page, size: usize) -> Result<(), 
 fn print_bytes<K: Sink>(sink: &mut K, page: &mut Page, bytes: &[u8]) -> Result<(), Failed>
     ensures text { Prints (K.written sink.old) page.old (K.written sink.new) page.new bytes.now result }
     ensures cause { HasCause (K.faults sink.old) (K.faults sink.new) result }
+    ensures ends { EndsAtFailure (K.asked sink.old) (K.asked sink.new) result }
 {
     if bytes.len() > PAGE {
         return print_long(sink, page, bytes);
@@ -66,6 +71,7 @@ fn print_bytes<K: Sink>(sink: &mut K, page: &mut Page, bytes: &[u8]) -> Result<(
 fn print_long<K: Sink>(sink: &mut K, page: &mut Page, bytes: &[u8]) -> Result<(), Failed>
     ensures text { Prints (K.written sink.old) page.old (K.written sink.new) page.new bytes.now result }
     ensures cause { HasCause (K.faults sink.old) (K.faults sink.new) result }
+    ensures ends { EndsAtFailure (K.asked sink.old) (K.asked sink.new) result }
 {
     flush(sink, page)?;
     write_all(sink, bytes)
@@ -81,6 +87,7 @@ fn print_named<K: Sink>(
 ) -> Result<(), Failed>
     ensures text { Prints (K.written sink.old) page.old (K.written sink.new) page.new (head.now ++ (name.now ++ tail.now)) result }
     ensures cause { HasCause (K.faults sink.old) (K.faults sink.new) result }
+    ensures ends { EndsAtFailure (K.asked sink.old) (K.asked sink.new) result }
 {
     print_bytes(sink, page, head)?;
     print_bytes(sink, page, name.as_bytes())?;
@@ -91,6 +98,7 @@ fn print_named<K: Sink>(
 fn print_hex<K: Sink>(sink: &mut K, page: &mut Page, bytes: &[u8]) -> Result<(), Failed>
     ensures text { Prints (K.written sink.old) page.old (K.written sink.new) page.new (encode_lower bytes.now) result }
     ensures cause { HasCause (K.faults sink.old) (K.faults sink.new) result }
+    ensures ends { EndsAtFailure (K.asked sink.old) (K.asked sink.new) result }
 {
     let mut rest = bytes;
     while !rest.is_empty() {
@@ -113,6 +121,7 @@ fn print_line<K: Sink>(
     requires { start ≤ 64 }
     ensures text { Prints (K.written sink.old) page.old (K.written sink.new) page.new (drop start (take 64 line.now)) result }
     ensures cause { HasCause (K.faults sink.old) (K.faults sink.new) result }
+    ensures ends { EndsAtFailure (K.asked sink.old) (K.asked sink.new) result }
 {
     make_room(sink, page, LINE)?;
     page.push_line(line, start);
@@ -130,6 +139,7 @@ fn print_to_function<K: Sink>(
 ) -> Result<(), Failed>
     ensures text { Prints (K.written sink.old) page.old (K.written sink.new) page.new (codes "reloc " ++ decimal reloc.now.offset ++ space ++ decimal reloc.now.size ++ space ++ (codes "func " ++ decimal number) ++ space ++ signed_decimal reloc.now.addend ++ line_feed) result }
     ensures cause { HasCause (K.faults sink.old) (K.faults sink.new) result }
+    ensures ends { EndsAtFailure (K.asked sink.old) (K.asked sink.new) result }
 {
     let tail = end_line(reloc.addend, line);
     let target = number_before(number as u64, line, tail);
@@ -149,6 +159,7 @@ fn print_to_section<K: Sink>(
 ) -> Result<(), Failed>
     ensures text { Prints (K.written sink.old) page.old (K.written sink.new) page.new (codes "reloc " ++ decimal reloc.now.offset ++ space ++ decimal reloc.now.size ++ space ++ (codes "section " ++ name.now) ++ space ++ signed_decimal reloc.now.addend ++ line_feed) result }
     ensures cause { HasCause (K.faults sink.old) (K.faults sink.new) result }
+    ensures ends { EndsAtFailure (K.asked sink.old) (K.asked sink.new) result }
 {
     if name.len() > NAME {
         return print_in_pieces(sink, page, reloc, name);
@@ -170,6 +181,7 @@ fn print_in_pieces<K: Sink>(
 ) -> Result<(), Failed>
     ensures text { Prints (K.written sink.old) page.old (K.written sink.new) page.new (codes "reloc " ++ decimal reloc.now.offset ++ space ++ decimal reloc.now.size ++ space ++ (codes "section " ++ name.now) ++ space ++ signed_decimal reloc.now.addend ++ line_feed) result }
     ensures cause { HasCause (K.faults sink.old) (K.faults sink.new) result }
+    ensures ends { EndsAtFailure (K.asked sink.old) (K.asked sink.new) result }
 {
     let mut line = [0; ROOM];
     let tail = end_line(reloc.addend, &mut line);
@@ -191,6 +203,7 @@ fn print_relocation<K: Sink>(
 ) -> Result<(), Failed>
     ensures text { Prints (K.written sink.old) page.old (K.written sink.new) page.new (printed_relocation (relocation_view reloc.now)) result }
     ensures cause { HasCause (K.faults sink.old) (K.faults sink.new) result }
+    ensures ends { EndsAtFailure (K.asked sink.old) (K.asked sink.new) result }
 {
     match reloc.target {
         DwarfSectionRelocTarget::Func(number) => print_to_function(sink, page, reloc, number, line),
@@ -205,6 +218,7 @@ fn print_relocations<K: Sink>(
 ) -> Result<(), Failed>
     ensures text { Prints (K.written sink.old) page.old (K.written sink.new) page.new (flat_map printed_relocation (map relocation_view relocs.now)) result }
     ensures cause { HasCause (K.faults sink.old) (K.faults sink.new) result }
+    ensures ends { EndsAtFailure (K.asked sink.old) (K.asked sink.new) result }
 {
     let mut line = [0; ROOM];
     for reloc in relocs {
@@ -217,6 +231,7 @@ fn print_relocations<K: Sink>(
 fn print_body<K: Sink>(sink: &mut K, page: &mut Page, name: &str, body: &[u8]) -> Result<(), Failed>
     ensures text { Prints (K.written sink.old) page.old (K.written sink.new) page.new (codes "section " ++ (name.now ++ (space ++ (decimal (length body.now) ++ (line_feed ++ (encode_lower body.now ++ line_feed)))))) result }
     ensures cause { HasCause (K.faults sink.old) (K.faults sink.new) result }
+    ensures ends { EndsAtFailure (K.asked sink.old) (K.asked sink.new) result }
 {
     let mut line = [0; ROOM];
     let end = end_section_line(body.len(), &mut line);
@@ -232,6 +247,7 @@ fn print_section<K: Sink>(
 ) -> Result<(), Failed>
     ensures text { Prints (K.written sink.old) page.old (K.written sink.new) page.new (printed_section (section_view section.now)) result }
     ensures cause { HasCause (K.faults sink.old) (K.faults sink.new) result }
+    ensures ends { EndsAtFailure (K.asked sink.old) (K.asked sink.new) result }
 {
     print_body(sink, page, section.name, &section.body)?;
     print_relocations(sink, page, &section.relocs)
@@ -244,6 +260,7 @@ fn print_each<K: Sink>(
 ) -> Result<(), Failed>
     ensures text { Prints (K.written sink.old) page.old (K.written sink.new) page.new (flat_map printed_section (map section_view sections.now)) result }
     ensures cause { HasCause (K.faults sink.old) (K.faults sink.new) result }
+    ensures ends { EndsAtFailure (K.asked sink.old) (K.asked sink.new) result }
 {
     for section in sections {
         print_section(sink, page, section)?;
@@ -258,6 +275,7 @@ pub(crate) fn print_sections<K: Sink>(sink: &mut K, sections: &[DwarfSection]) -
     ensures whole { OnOk result (Appended (K.written sink.old) (K.written sink.new) (printed (map section_view sections.now))) }
     ensures front { OnErr result (AppendsFront (K.written sink.old) (K.written sink.new) (printed (map section_view sections.now))) }
     ensures cause { HasCause (K.faults sink.old) (K.faults sink.new) result }
+    ensures ends { EndsAtFailure (K.asked sink.old) (K.asked sink.new) result }
 {
     let mut page = Page::new();
     print_each(sink, &mut page, sections)?;
@@ -287,6 +305,7 @@ fn joined_text(alloc: Global, sections: &[DwarfSection]) -> Result<Vec<u8>, Allo
     let mut kept = KeptText {
         text: Vec::new(alloc),
         faults: 0,
+        asked: Asked::new(),
     };
     match print_sections(&mut kept, sections) {
         Ok(()) => Ok(kept.text),
@@ -299,6 +318,7 @@ fn joined_text(alloc: Global, sections: &[DwarfSection]) -> Result<Vec<u8>, Allo
 struct KeptText {
     text: Vec<u8>,
     faults: u64,
+    asked: Asked,
 }
 
 impl Sink for KeptText {
@@ -306,14 +326,19 @@ impl Sink for KeptText {
 
     ghost faults = { λ s. s.faults };
 
+    ghost asked = { λ s. s.asked.calls };
+
     fn write(&mut self, bytes: &[u8]) -> Result<usize, Failed>
         ensures bytes { Accepts (Some self.old.text.items) (Some self.new.text.items) bytes.now result }
         ensures cause { HasCause self.old.faults self.new.faults result }
+        ensures asked { self.new.asked.calls ≡ passing_of result ∷ self.old.asked.calls }
     {
         if self.text.extend_from_slice(bytes).is_err() {
             self.faults = self.faults.saturating_add(1);
+            self.asked.note_failing();
             return Err(Failed);
         }
+        self.asked.note_passing(bytes.len());
         Ok(bytes.len())
     }
 }

@@ -1,6 +1,7 @@
 //! Reading the files that the words of a run name.
-ghost use Rattle.std.specs.Prelude.{ℕ, List, ◌≡◌, ◌≤◌, ◌<◌, ◌↔◌, map, option_map, string_bytes, IfOk, IfErr, IfSome, Any};
+ghost use Rattle.std.specs.Prelude.{ℕ, List, [], ◌∷◌, ◌≡◌, ◌≤◌, ◌<◌, ◌↔◌, map, option_map, string_bytes, Some, IfOk, IfErr, IfSome, Any};
 ghost use Rattle.std.specs.List.{AllZip};
+ghost use Rattle.dwc_cli.specs.Calls.{last_opened, ReadsPaths, ReadsFront};
 ghost use Rattle.dwc_cli.specs.RunStatus.{Rose, most_bytes};
 ghost use Rattle.dwc_cli.specs.Inputs.{Input, all_paths};
 ghost use Rattle.dwc_cli.specs.Edge.{IsReadFile, IsLongFile, paths_view};
@@ -32,6 +33,9 @@ pub(crate) fn read_input<'w, S: Source>(
     ensures status { IfErr result (λ failure. IsReadingStatus (failure_status failure)) }
     ensures fault_told { status_of result ≡ 3 → Any (λ path. message_of result ≡ fault_message path) (all_paths (paths_view paths.now)) }
     ensures length_told { status_of result ≡ 4 → Any (λ path. message_of result ≡ length_message path) (all_paths (paths_view paths.now)) }
+    ensures asked { ReadsFront (status_of result) (all_paths (paths_view paths.now)) (S.faults source.old) (S.faults source.new) (S.asked source.old) (S.asked source.new) }
+    ensures fault_named { status_of result ≡ 3 → option_map fault_message (last_opened (S.asked source.new)) ≡ Some (message_of result) }
+    ensures length_named { status_of result ≡ 4 → option_map length_message (last_opened (S.asked source.new)) ≡ Some (message_of result) }
     ensures later { S.faults source.old ≤ S.faults source.new }
 {
     let map_file = read_map(alloc, source, paths.map_path)?;
@@ -54,6 +58,8 @@ fn read_map<'w, S: Source>(
     ensures status { IfErr result (λ failure. IsReadingStatus (failure_status failure)) }
     ensures fault_told { status_of result ≡ 3 → message_of result ≡ fault_message path.now }
     ensures length_told { status_of result ≡ 4 → message_of result ≡ length_message path.now }
+    ensures asked { ReadsPaths (status_of result) (path.now ∷ []) (S.faults source.old) (S.faults source.new) (S.asked source.old) (S.asked source.new) }
+    ensures last { last_opened (S.asked source.new) ≡ Some path.now }
     ensures files { S.files source.new ≡ S.files source.old }
     ensures later { S.faults source.old ≤ S.faults source.new }
 {
@@ -84,6 +90,9 @@ fn read_files<'w, S: Source>(
     ensures status { IfErr result (λ failure. IsReadingStatus (failure_status failure)) }
     ensures fault_told { status_of result ≡ 3 → Any (λ path. message_of result ≡ fault_message path) (map string_bytes paths.now) }
     ensures length_told { status_of result ≡ 4 → Any (λ path. message_of result ≡ length_message path) (map string_bytes paths.now) }
+    ensures asked { ReadsFront (status_of result) (map string_bytes paths.now) (S.faults source.old) (S.faults source.new) (S.asked source.old) (S.asked source.new) }
+    ensures fault_named { status_of result ≡ 3 → option_map fault_message (last_opened (S.asked source.new)) ≡ Some (message_of result) }
+    ensures length_named { status_of result ≡ 4 → option_map length_message (last_opened (S.asked source.new)) ≡ Some (message_of result) }
     ensures later { S.faults source.old ≤ S.faults source.new }
 {
     let mut files = Vec::with_capacity(alloc, paths.len())?;
@@ -107,6 +116,8 @@ fn read_file<'w, S: Source>(
     ensures status { IfErr result (λ failure. IsReadingStatus (failure_status failure)) }
     ensures fault_told { status_of result ≡ 3 → message_of result ≡ fault_message path.now }
     ensures length_told { status_of result ≡ 4 → message_of result ≡ length_message path.now }
+    ensures asked { ReadsPaths (status_of result) (path.now ∷ []) (S.faults source.old) (S.faults source.new) (S.asked source.old) (S.asked source.new) }
+    ensures last { last_opened (S.asked source.new) ≡ Some path.now }
     ensures files { S.files source.new ≡ S.files source.old }
     ensures later { S.faults source.old ≤ S.faults source.new }
 {

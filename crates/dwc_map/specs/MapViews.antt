@@ -1,5 +1,5 @@
 -- The program's own map file, seen as the value of a map.
-use Rattle.std.specs.Prelude.{◌≡◌, ℕ, ◌<◌, ◌-◌, ◌^◌, IfSome, List, map, String, string_bytes, Option, Some, None, option_map, Vec}
+use Rattle.std.specs.Prelude.{◌≡◌, ℕ, ◌<◌, ◌-◌, ◌^◌, IfSome, Bool, false, List, map, String, string_bytes, Option, Some, None, option_map, is_some, Vec}
 use Rattle.std.specs.Global.{Global}
 use Rattle.std.specs.FinMap as finite
 use Rattle.serde_json.specs.Data.{Items}
@@ -106,20 +106,22 @@ path_view path = option_map string_bytes path
 abbrev pub module_view : MapModule → value.MapModule
 module_view m = record { functions = map function_view m.functions.items; memory = memory_view m.memory; path = path_view m.path }
 
--- the sources of a function's begin and end, as its record tells them beside its address map, and as the address map does
-abbrev pub told_sources : Option SymbolId × CompiledFunctionMetadata → Option ℕ × Option ℕ
-told_sources f = ((f.1).start_srcloc, (f.1).end_srcloc)
+-- what a function's record tells beside its address map: the sources of its begin and end, and whether it has an unwind record of another
+-- kind than a frame of DWARF
+abbrev pub told_beside : Option SymbolId × CompiledFunctionMetadata → Option ℕ × Option ℕ × Bool
+told_beside f = ((f.1).start_srcloc, (f.1).end_srcloc, is_some (f.1).unwind_info)
 
-abbrev pub mapped_sources : Option SymbolId × CompiledFunctionMetadata → Option ℕ × Option ℕ
-mapped_sources f = ((f.1).address_map.start_srcloc, (f.1).address_map.end_srcloc)
+-- what it is to tell: the sources that the address map tells, and no such record
+abbrev pub due_beside : Option SymbolId × CompiledFunctionMetadata → Option ℕ × Option ℕ × Bool
+due_beside f = ((f.1).address_map.start_srcloc, (f.1).address_map.end_srcloc, false)
 
--- the records of some functions tell the sources that their address maps do
-abbrev pub HaveOneSource : List (Option SymbolId × CompiledFunctionMetadata) → Type 0
-HaveOneSource functions = map told_sources functions ≡ map mapped_sources functions
+-- the records of some functions tell what they are to
+abbrev pub AreConsistent : List (Option SymbolId × CompiledFunctionMetadata) → Type 0
+AreConsistent functions = map told_beside functions ≡ map due_beside functions
 
 -- the same of the functions of some modules
-abbrev pub ModulesHaveOneSource : List MapModule → Type 0
-ModulesHaveOneSource modules = map (λ m. map told_sources m.functions.items) modules ≡ map (λ m. map mapped_sources m.functions.items) modules
+abbrev pub ModulesAreConsistent : List MapModule → Type 0
+ModulesAreConsistent modules = map (λ m. map told_beside m.functions.items) modules ≡ map (λ m. map due_beside m.functions.items) modules
 
 abbrev pub map_file_view : MapFile → value.MapFile
 map_file_view m = record {

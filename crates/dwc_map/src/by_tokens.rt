@@ -8,7 +8,7 @@ ghost use Rattle.dwc_isa.specs.CallFrames.{description_view};
 ghost use Rattle.dwc_map.specs.ByTokens.{IsNumber, IsSource, Puts, Tells, TellsFunction, TellsItems, TellsMembers};
 ghost use Rattle.dwc_map.specs.MapFile.{entries_of, functions_of, map_function_of, map_in, map_in_bytes, map_module_of, modules_of};
 ghost use Rattle.dwc_map.specs.MapValues.{pair_of, source_of, u32_of};
-ghost use Rattle.dwc_map.specs.MapViews.{function_view, map_file_view, module_view, told_sources, mapped_sources, HaveOneSource, ModulesHaveOneSource};
+ghost use Rattle.dwc_map.specs.MapViews.{function_view, map_file_view, module_view, told_beside, due_beside, AreConsistent, ModulesAreConsistent};
 
 use crate::frames_by_tokens::read_frame;
 use crate::function::function_with;
@@ -166,7 +166,7 @@ fn read_function(
 ) -> Result<(Option<SymbolId>, CompiledFunctionMetadata), Stop>
     requires { 4 < depth }
     ensures told { IfOk result (λ f. Tells depth map_function_of reader.old (function_view f) reader.new) }
-    ensures sources { IfOk result (λ f. told_sources f ≡ mapped_sources f) }
+    ensures records { IfOk result (λ f. told_beside f ≡ due_beside f) }
     ensures shorter { OnOk result (length reader.new < length reader.old) }
 {
     begin_object(reader)?;
@@ -190,7 +190,7 @@ fn read_functions(
 ) -> Result<Vec<(Option<SymbolId>, CompiledFunctionMetadata)>, Stop>
     requires { 5 < depth }
     ensures told { IfOk result (λ fs. Tells depth functions_of reader.old (map function_view fs.items) reader.new) }
-    ensures sources { IfOk result (λ fs. HaveOneSource fs.items) }
+    ensures records { IfOk result (λ fs. AreConsistent fs.items) }
     ensures shorter { OnOk result (length reader.new < length reader.old) }
 {
     begin_list(reader)?;
@@ -206,7 +206,7 @@ fn functions_inside(
 ) -> Result<Vec<(Option<SymbolId>, CompiledFunctionMetadata)>, Stop>
     requires { 4 < depth }
     ensures told { IfOk result (λ fs. TellsItems depth map_function_of reader.old (map function_view fs.items) reader.new) }
-    ensures sources { IfOk result (λ fs. HaveOneSource fs.items) }
+    ensures records { IfOk result (λ fs. AreConsistent fs.items) }
     ensures shorter { OnOk result (length reader.new < length reader.old) }
 {
     let mut functions = Vec::new(alloc);
@@ -232,7 +232,7 @@ fn module_members(
 >
     requires { 5 < depth }
     ensures told { IfOk result (λ r. TellsMembers depth (codes "functions") functions_of reader.old (members_view r.0.entries) (map function_view r.1.items) reader.new) }
-    ensures sources { IfOk result (λ r. HaveOneSource r.1.items) }
+    ensures records { IfOk result (λ r. AreConsistent r.1.items) }
     ensures shorter { OnOk result (length reader.new < length reader.old) }
 {
     let mut fields = Map::new(alloc);
@@ -258,7 +258,7 @@ fn read_module(
 ) -> Result<MapModule, Stop>
     requires { 6 < depth }
     ensures told { IfOk result (λ m. Tells depth map_module_of reader.old (module_view m) reader.new) }
-    ensures sources { IfOk result (λ m. HaveOneSource m.functions.items) }
+    ensures records { IfOk result (λ m. AreConsistent m.functions.items) }
     ensures shorter { OnOk result (length reader.new < length reader.old) }
 {
     begin_object(reader)?;
@@ -277,7 +277,7 @@ fn read_modules(
 ) -> Result<Vec<MapModule>, Stop>
     requires { 7 < depth }
     ensures told { IfOk result (λ ms. Tells depth modules_of reader.old (map module_view ms.items) reader.new) }
-    ensures sources { IfOk result (λ ms. ModulesHaveOneSource ms.items) }
+    ensures records { IfOk result (λ ms. ModulesAreConsistent ms.items) }
     ensures shorter { OnOk result (length reader.new < length reader.old) }
 {
     begin_list(reader)?;
@@ -293,7 +293,7 @@ fn modules_inside(
 ) -> Result<Vec<MapModule>, Stop>
     requires { 6 < depth }
     ensures told { IfOk result (λ ms. TellsItems depth map_module_of reader.old (map module_view ms.items) reader.new) }
-    ensures sources { IfOk result (λ ms. ModulesHaveOneSource ms.items) }
+    ensures records { IfOk result (λ ms. ModulesAreConsistent ms.items) }
     ensures shorter { OnOk result (length reader.new < length reader.old) }
 {
     let mut modules = Vec::new(alloc);
@@ -313,7 +313,7 @@ fn map_members(
 ) -> Result<(Map<String, Value>, Vec<MapModule>), Stop>
     requires { 7 < depth }
     ensures told { IfOk result (λ r. TellsMembers depth (codes "modules") modules_of reader.old (members_view r.0.entries) (map module_view r.1.items) reader.new) }
-    ensures sources { IfOk result (λ r. ModulesHaveOneSource r.1.items) }
+    ensures records { IfOk result (λ r. ModulesAreConsistent r.1.items) }
     ensures shorter { OnOk result (length reader.new < length reader.old) }
 {
     let mut fields = Map::new(alloc);
@@ -339,7 +339,7 @@ fn read_map(
 ) -> Result<MapFile, Stop>
     requires { 8 < depth }
     ensures told { IfOk result (λ m. Tells depth map_in reader.old (map_file_view m) reader.new) }
-    ensures sources { IfOk result (λ m. ModulesHaveOneSource m.modules.items) }
+    ensures records { IfOk result (λ m. ModulesAreConsistent m.modules.items) }
 {
     begin_object(reader)?;
     let (fields, modules) = map_members(alloc, reader, depth - 1, room)?;
@@ -352,7 +352,7 @@ fn read_map(
 /// The map that some bytes are, read token by token.
 pub(crate) fn map_by_tokens(alloc: Global, bytes: &[u8]) -> Result<MapFile, Stop>
     ensures told { IfOk result (λ m. map_in_bytes bytes.now ≡ Some (map_file_view m)) }
-    ensures sources { IfOk result (λ m. ModulesHaveOneSource m.modules.items) }
+    ensures records { IfOk result (λ m. ModulesAreConsistent m.modules.items) }
 {
     let Ok(text) = str::from_utf8(bytes) else {
         return Err(Stop::Unusual);

@@ -7,7 +7,7 @@ ghost use Rattle.dwc_isa.specs.CallFrames.{description_view};
 ghost use Rattle.dwc_isa.specs.ValueLabels.{LabelledRanges};
 ghost use Rattle.dwc_map.specs.MapFile.{function_by, function_in, map_function_of};
 ghost use Rattle.dwc_map.specs.MapValues.{u32_of, source_of, pair_of, all_items};
-ghost use Rattle.dwc_map.specs.MapViews.{function_told, function_with, function_view, told_sources, mapped_sources, HaveOneSource, IsPlace};
+ghost use Rattle.dwc_map.specs.MapViews.{function_told, function_with, function_view, told_beside, due_beside, AreConsistent, IsPlace};
 
 use crate::frames::read_frame;
 use crate::json_fields::{
@@ -68,7 +68,7 @@ fn function_of(
     requires start { IsPlace fields.now.start }
     requires end { IsPlace fields.now.end }
     ensures value { function_view result ≡ function_told instructions value_labels_ranges (option_map description_view cfa_unwind_info) fields.now }
-    ensures sources { told_sources result ≡ mapped_sources result }
+    ensures records { told_beside result ≡ due_beside result }
 {
     let start = place_at(fields.start);
     let end = place_at(fields.end);
@@ -98,7 +98,7 @@ pub(crate) fn function_with(
     frame: Option<CfaUnwindInfo>,
 ) -> Option<(Option<SymbolId>, CompiledFunctionMetadata)>
     ensures value { option_map function_view result ≡ function_by instructions labels (option_map description_view frame) (members_view fields.now.entries) }
-    ensures sources { IfSome result (λ f. told_sources f ≡ mapped_sources f) }
+    ensures records { IfSome result (λ f. told_beside f ≡ due_beside f) }
 {
     let fields = function_fields(fields)?;
     Some(function_of(&fields, instructions, labels, frame))
@@ -111,7 +111,7 @@ fn function_from(
     instructions: InstructionMaps,
 ) -> Result<Option<(Option<SymbolId>, CompiledFunctionMetadata)>, AllocError>
     ensures value { IfOk result (λ o. option_map function_view o ≡ function_in instructions (members_view fields.now.entries)) }
-    ensures sources { IfOk result (λ o. IfSome o (λ f. told_sources f ≡ mapped_sources f)) }
+    ensures records { IfOk result (λ o. IfSome o (λ f. told_beside f ≡ due_beside f)) }
 {
     let Some(fields) = function_fields(fields) else {
         return Ok(None);
@@ -159,7 +159,7 @@ fn read_function(
     value: &Value,
 ) -> Result<Option<(Option<SymbolId>, CompiledFunctionMetadata)>, AllocError>
     ensures value { IfOk result (λ o. option_map function_view o ≡ map_function_of (view value.now)) }
-    ensures sources { IfOk result (λ o. IfSome o (λ f. told_sources f ≡ mapped_sources f)) }
+    ensures records { IfOk result (λ o. IfSome o (λ f. told_beside f ≡ due_beside f)) }
 {
     let Some(fields) = members(value) else {
         return Ok(None);
@@ -180,7 +180,7 @@ pub(crate) fn read_functions(
 ) -> Result<Option<Vec<(Option<SymbolId>, CompiledFunctionMetadata)>>, AllocError>
     ensures value { IfOk result (λ o. option_map (λ v. map function_view v.items) o
         ≡ all_items map_function_of (items_view values.now)) }
-    ensures sources { IfOk result (λ o. IfSome o (λ v. HaveOneSource v.items)) }
+    ensures records { IfOk result (λ o. IfSome o (λ v. AreConsistent v.items)) }
 {
     let mut functions = Vec::with_capacity(alloc, values.len())?;
     for value in values {

@@ -3,7 +3,7 @@ ghost use Rattle.std.specs.Prelude.{◌≡◌, map, option_map, option_and_then,
 ghost use Rattle.serde_json.specs.View.{view, members_view};
 ghost use Rattle.dwc_map.specs.MapFile.{target_of, map_in, map_for, map_in_bytes, map_of_bytes, map_with, have_counts, is_countable, IsMap, IsMapFor};
 ghost use Rattle.dwc_map.specs.MapValues.{text_of, u32_of, pair_of, value_or};
-ghost use Rattle.dwc_map.specs.MapViews.{target_with, target_view, names_view, module_view, map_file_view, ModulesHaveOneSource};
+ghost use Rattle.dwc_map.specs.MapViews.{target_with, target_view, names_view, module_view, map_file_view, ModulesAreConsistent};
 
 use crate::by_tokens::map_by_tokens;
 use crate::frames::read_cie;
@@ -156,7 +156,7 @@ pub(crate) fn map_from(
     modules: Vec<MapModule>,
 ) -> Result<Option<MapFile>, AllocError>
     ensures value { IfOk result (λ o. option_map map_file_view o ≡ map_with (map module_view modules.items) (members_view fields.now.entries)) }
-    ensures sources { ModulesHaveOneSource modules.items → IfOk result (λ o. IfSome o (λ f. ModulesHaveOneSource f.modules.items)) }
+    ensures records { ModulesAreConsistent modules.items → IfOk result (λ o. IfSome o (λ f. ModulesAreConsistent f.modules.items)) }
 {
     let Some(target) = member(fields, "target") else {
         return Ok(None);
@@ -184,7 +184,7 @@ pub(crate) fn map_from(
 #[tactic(auto, using(crate::proofs::MapKinds::list_of_items), unfolding(crate::specs::MapFile::map_in))]
 fn read_map(alloc: Global, value: &Value) -> Result<Option<MapFile>, AllocError>
     ensures value { IfOk result (λ o. option_map map_file_view o ≡ map_in (view value.now)) }
-    ensures sources { IfOk result (λ o. IfSome o (λ f. ModulesHaveOneSource f.modules.items)) }
+    ensures records { IfOk result (λ o. IfSome o (λ f. ModulesAreConsistent f.modules.items)) }
 {
     let Some(fields) = members(value) else {
         return Ok(None);
@@ -202,7 +202,7 @@ fn read_map(alloc: Global, value: &Value) -> Result<Option<MapFile>, AllocError>
 #[tactic(auto, using(crate::proofs::MapKinds::map_in_bytes_read, crate::proofs::MapKinds::map_in_bytes_unread))]
 fn map_by_value(alloc: Global, bytes: &[u8]) -> Result<Option<MapFile>, AllocError>
     ensures value { IfOk result (λ o. option_map map_file_view o ≡ map_in_bytes bytes.now) }
-    ensures sources { IfOk result (λ o. IfSome o (λ f. ModulesHaveOneSource f.modules.items)) }
+    ensures records { IfOk result (λ o. IfSome o (λ f. ModulesAreConsistent f.modules.items)) }
 {
     match Value::from_slice(alloc, bytes) {
         Ok(value) => read_map(alloc, &value),
@@ -256,7 +256,7 @@ fn can_be_numbered(modules: &[MapModule]) -> bool
 pub fn map_of_any(alloc: Global, bytes: &[u8]) -> Result<Option<MapFile>, AllocError>
     ensures value { IfOk result (λ o. option_map map_file_view o ≡ map_in_bytes bytes.now) }
     ensures kinds { IfOk result (λ o. IfSome o (λ f. IsMap (map_file_view f))) }
-    ensures sources { IfOk result (λ o. IfSome o (λ f. ModulesHaveOneSource f.modules.items)) }
+    ensures records { IfOk result (λ o. IfSome o (λ f. ModulesAreConsistent f.modules.items)) }
 {
     match map_by_tokens(alloc, bytes) {
         Ok(map) => Ok(Some(map)),
@@ -289,7 +289,7 @@ pub fn map_for(told: Option<MapFile>, modules: &[ModuleTranslation<'_>]) -> Opti
 ///
 /// A map that is answered has the modules and functions that are asked for, fewer than 2^32 each, addresses of 4 or 8 bytes,
 /// names and paths without a zero byte, and no common information entry that cannot be written. The begin and the end of a function are the
-/// same in its record and in its address map.
+/// same in its record and in its address map, and its frame is the only unwind record that it has.
 ///
 /// # Errors
 ///
@@ -302,7 +302,7 @@ pub fn map_of(
 ) -> Result<Option<MapFile>, AllocError>
     ensures value { IfOk result (λ o. option_map map_file_view o ≡ map_of_bytes (map (λ m. m.defined_funcs) modules.now) bytes.now) }
     ensures fits { IfOk result (λ o. IfSome o (λ f. IsMapFor (map (λ m. m.defined_funcs) modules.now) (map_file_view f))) }
-    ensures sources { IfOk result (λ o. IfSome o (λ f. ModulesHaveOneSource f.modules.items)) }
+    ensures records { IfOk result (λ o. IfSome o (λ f. ModulesAreConsistent f.modules.items)) }
 {
     let map = map_of_any(alloc, bytes)?;
     Ok(map_for(map, modules))

@@ -3,7 +3,7 @@ ghost use Rattle.std.specs.Prelude.{◌≡◌, map, option_map, IfOk, IfSome, So
 ghost use Rattle.serde_json.specs.View.{view, items_view, members_view};
 ghost use Rattle.dwc_map.specs.MapFile.{map_module_of, module_in, path_of};
 ghost use Rattle.dwc_map.specs.MapValues.{all_items, value_or};
-ghost use Rattle.dwc_map.specs.MapViews.{function_view, module_view, path_view, HaveOneSource, ModulesHaveOneSource};
+ghost use Rattle.dwc_map.specs.MapViews.{function_view, module_view, path_view, AreConsistent, ModulesAreConsistent};
 
 use crate::function::read_functions;
 use crate::json_fields::{items, member, members, plain_text};
@@ -34,7 +34,7 @@ pub(crate) fn module_from(
     functions: Vec<(Option<SymbolId>, CompiledFunctionMetadata)>,
 ) -> Result<Option<MapModule>, AllocError>
     ensures value { IfOk result (λ o. option_map module_view o ≡ module_in (map function_view functions.items) (members_view fields.now.entries)) }
-    ensures sources { HaveOneSource functions.items → IfOk result (λ o. IfSome o (λ m. HaveOneSource m.functions.items)) }
+    ensures records { AreConsistent functions.items → IfOk result (λ o. IfSome o (λ m. AreConsistent m.functions.items)) }
 {
     let Some(memory) = read_memory(member(fields, "memory")) else {
         return Ok(None);
@@ -52,7 +52,7 @@ pub(crate) fn module_from(
 #[tactic(auto, using(crate::proofs::MapKinds::list_of_items), unfolding(crate::specs::MapFile::map_module_of))]
 fn read_module(alloc: Global, value: &Value) -> Result<Option<MapModule>, AllocError>
     ensures value { IfOk result (λ o. option_map module_view o ≡ map_module_of (view value.now)) }
-    ensures sources { IfOk result (λ o. IfSome o (λ m. HaveOneSource m.functions.items)) }
+    ensures records { IfOk result (λ o. IfSome o (λ m. AreConsistent m.functions.items)) }
 {
     let Some(fields) = members(value) else {
         return Ok(None);
@@ -73,7 +73,7 @@ pub(crate) fn read_modules(
 ) -> Result<Option<Vec<MapModule>>, AllocError>
     ensures value { IfOk result (λ o. option_map (λ v. map module_view v.items) o
         ≡ all_items map_module_of (items_view values.now)) }
-    ensures sources { IfOk result (λ o. IfSome o (λ v. ModulesHaveOneSource v.items)) }
+    ensures records { IfOk result (λ o. IfSome o (λ v. ModulesAreConsistent v.items)) }
 {
     let mut modules = Vec::with_capacity(alloc, values.len())?;
     for value in values {

@@ -53,7 +53,13 @@ const THREE: &[&str] = &["g.json", "g.wasm", "cut.wasm"];
 
 // The words, the call of the source that fails, the room of the sink, and how a run then ends: its status, its text and its line.
 // A sink that is full takes a front of the text.
-const ENDINGS: [(&[&str], u64, usize, u8, &str, &str); 9] = [
+const ENDINGS: [(&[&str], u64, usize, u8, &str, &str); 15] = [
+    (TWO, 1, 99, 3, "", "dwarfcarry: read fault g.json\n"),
+    (TWO, 2, 99, 3, "", "dwarfcarry: read fault g.json\n"),
+    (TWO, 3, 99, 3, "", "dwarfcarry: read fault g.json\n"),
+    (TWO, 4, 99, 3, "", "dwarfcarry: read fault g.wasm\n"),
+    (TWO, 5, 99, 3, "", "dwarfcarry: read fault g.wasm\n"),
+    (TWO, 6, 99, 3, "", "dwarfcarry: read fault g.wasm\n"),
     (THREE, 1, 99, 3, "", "dwarfcarry: read fault g.json\n"),
     (THREE, 2, 99, 3, "", "dwarfcarry: read fault g.json\n"),
     (THREE, 3, 99, 3, "", "dwarfcarry: read fault g.json\n"),
@@ -76,6 +82,68 @@ fn ends_with_a_line_where_a_source_or_a_sink_fails(rt: HostRuntime) -> Result<()
         assert_eq!(rt; out.bytes(), text.as_bytes());
         assert_eq!(rt; err.bytes(), line.as_bytes());
     }
+    Ok(())
+}
+
+// A line that cannot be written changes no status.
+#[test]
+fn ends_alike_where_no_byte_of_a_line_is_taken(rt: HostRuntime) -> Result<(), Fail> {
+    for (words, call, room, wanted, text, line) in &ENDINGS {
+        let mut source = source(rt.alloc(), &FILES, &[*call])?;
+        let mut out = sink(rt.alloc(), *room, 7, &[])?;
+        let mut err = sink(rt.alloc(), 99, 0, &[])?;
+        let status = status(rt.alloc(), words, &mut source, &mut out, &mut err)?;
+        assert_eq!(rt; status, *wanted, "{line}");
+        assert_eq!(rt; out.bytes(), text.as_bytes());
+        assert_eq!(rt; err.bytes(), b"".as_slice());
+    }
+    Ok(())
+}
+
+// More than the text of a run over the map and the module.
+const ROOM: usize = 1 << 16;
+
+// A run over a map and a module makes six calls of its source: where a later one is to fail, its text is whole.
+#[test]
+fn makes_six_calls_of_a_source(rt: HostRuntime) -> Result<(), Fail> {
+    let mut source = source(rt.alloc(), &FILES, &[7])?;
+    let mut out = sink(rt.alloc(), ROOM, ROOM, &[])?;
+    let mut err = PlainSink::new();
+    let status = status(rt.alloc(), TWO, &mut source, &mut out, &mut err)?;
+    assert_eq!(rt; status, Status::Done.code());
+    Ok(())
+}
+
+// At how many calls a sink fails in turn.
+const FAILURES: usize = 32;
+
+// A sink that takes a byte a call, and fails at one, has the bytes of the calls before.
+#[test]
+fn leaves_a_front_where_a_write_fails(rt: HostRuntime) -> Result<(), Fail> {
+    let mut whole = sink(rt.alloc(), ROOM, ROOM, &[])?;
+    let mut err = PlainSink::new();
+    let mut files = source(rt.alloc(), &FILES, &[])?;
+    let done = status(rt.alloc(), TWO, &mut files, &mut whole, &mut err)?;
+    assert_eq!(rt; done, Status::Done.code());
+    for taken in 0..whole.bytes().len().min(FAILURES) {
+        let mut files = source(rt.alloc(), &FILES, &[])?;
+        let mut out = sink(rt.alloc(), ROOM, 1, &[taken as u64 + 1])?;
+        let status = status(rt.alloc(), TWO, &mut files, &mut out, &mut err)?;
+        assert_eq!(rt; status, Status::WriteFault.code());
+        assert_eq!(rt; out.bytes(), &whole.bytes()[..taken]);
+    }
+    Ok(())
+}
+
+#[test]
+fn fails_where_a_sink_takes_no_byte(rt: HostRuntime) -> Result<(), Fail> {
+    let mut source = source(rt.alloc(), &FILES, &[])?;
+    let mut out = sink(rt.alloc(), ROOM, 0, &[])?;
+    let mut err = sink(rt.alloc(), 99, 99, &[])?;
+    let status = status(rt.alloc(), TWO, &mut source, &mut out, &mut err)?;
+    assert_eq!(rt; status, Status::WriteFault.code());
+    assert_eq!(rt; out.bytes(), b"".as_slice());
+    assert_eq!(rt; err.bytes(), b"dwarfcarry: write fault\n".as_slice());
     Ok(())
 }
 

@@ -22,7 +22,11 @@ failed-no_cause : HasCause 3 3 failed → ⊥
 failed-no_cause h = omega (arith, h.failed)
 
 failed-cause : HasCause 3 4 failed
-failed-cause = record { later = lit≤ tt; failed = lit≤ tt }
+failed-cause = record { later = lit≤ tt; failed = lit≤ tt; well = tt }
+
+-- a count that rises though the call is answered well
+count-rises : HasCause 3 4 (given 0) → ⊥
+count-rises h = omega (arith, h.well)
 
 -- a count that falls
 count-falls : HasCause 3 2 (given 0) → ⊥

@@ -82,5 +82,6 @@ pub mod Answers
 pub mod RefusedPaths
 pub mod WholeRun
 pub mod DeviceCases
+pub mod CallCases
 pub mod SplitSectionCases
 pub mod SpelledCases

@@ -1,10 +1,12 @@
-use Rattle.std.proofs.Common.{[], ◌∷◌, map, string_bytes, refl, sym, subst, arith}
+use Rattle.std.proofs.Common.{[], ◌∷◌, map, string_bytes, refl, sym, ◌∙◌, subst, arith}
 use Rattle.dwc_base.specs.Outputs.{section_view}
 use Rattle.dwc_cli.specs.Edge.{paths_view}
+use Rattle.dwc_cli.specs.Inputs.{all_paths, named_paths}
 use Rattle.dwc_cli.specs.RunStatus.{InputCauses, run_statuses, IsStatus, IsOneOf}
 use Rattle.dwc_cli.specs.Failures.{failure_status, failure_message, usage_message, write_message}
 use Rattle.dwc_cli.specs.Printed.{printed}
 use Rattle.dwc_cli.specs.Answers.{IsMessage, reading_statuses, text_statuses}
+use Rattle.dwc_cli.proofs.CallLaws.{ReadsFront-none, ReadsFront-status, ReadsFront-named, WritesUntilFailure-none, WritesUntilFailure-all, WritesUntilFailure-failed}
 use Rattle.dwc_cli.proofs.Statuses.{IsOneOf-from, IsOneOf-more, IsOneOf-other}
 use Rattle.dwc_cli.proofs.Messages.{IsMessage-usage, IsMessage-reading, IsMessage-text, IsMessage-write}
 use Rattle.dwc_cli.proofs.RunExits.{InputCauses-reading, InputCauses-text, MissingCause-read, Succeeds-read, PrefixWritten-read, TextCauses-write, only_memory, complete_read}
@@ -13,7 +15,8 @@ use Rattle.dwc_cli.proofs.command.run.Goals as goal
 pub returns-in_default-clause-said : goal.returns-in_default-clause-said
 returns-in_default-clause-said g c = λ _.
     let words = map string_bytes c.args.words.now in
-    (usage_message, subst (λ s. IsMessage words s usage_message) (sym c.refuse.ensures.status) (IsMessage-usage words), c.refuse.ensures.said)
+    let asked = g.S.Source.asked c.args.source.now in
+    (usage_message, subst (λ s. IsMessage words asked s usage_message) (sym c.refuse.ensures.status) (IsMessage-usage words asked), c.refuse.ensures.said)
 
 pub returns-in-Err-clause-input : goal.returns-in-Err-clause-input
 returns-in-Err-clause-input g c =
@@ -114,17 +117,72 @@ pub returns-in-Err-clause-said : goal.returns-in-Err-clause-said
 returns-in-Err-clause-said g c = λ _.
     let words = map string_bytes c.args.words.now in
     let message = failure_message c.in-Err.failure in
-    let says = IsMessage-reading words (paths_view c.in-Some.paths) c.in-Err.failure (sym c.in-Some.ensures) c.refuse-in-Err.ensures.one_line c.in-Err.ensures.status c.in-Err.ensures.fault_told c.in-Err.ensures.length_told in
-    (message, subst (λ s. IsMessage words s message) (sym c.refuse-in-Err.ensures.status) says, c.refuse-in-Err.ensures.said)
+    let asked = g.S.Source.asked c.read_input.new.source in
+    let says = IsMessage-reading words asked (paths_view c.in-Some.paths) c.in-Err.failure (sym c.in-Some.ensures) c.refuse-in-Err.ensures.one_line c.in-Err.ensures.status c.in-Err.ensures.fault_told c.in-Err.ensures.length_told c.in-Err.ensures.fault_named c.in-Err.ensures.length_named in
+    (message, subst (λ s. IsMessage words asked s message) (sym c.refuse-in-Err.ensures.status) says, c.refuse-in-Err.ensures.said)
 
 pub returns-in-Err-sections_of-clause-said : goal.returns-in-Err-sections_of-clause-said
 returns-in-Err-sections_of-clause-said g c = λ _.
     let words = map string_bytes c.args.words.now in
     let message = failure_message c.in-Err-sections_of.failure in
-    let says = IsMessage-text words c.in-Err-sections_of.failure c.refuse-in-Err-sections_of.ensures.one_line c.in-Err-sections_of.ensures.status in
-    (message, subst (λ s. IsMessage words s message) (sym c.refuse-in-Err-sections_of.ensures.status) says, c.refuse-in-Err-sections_of.ensures.said)
+    let asked = g.S.Source.asked c.read_input.new.source in
+    let says = IsMessage-text words asked c.in-Err-sections_of.failure c.refuse-in-Err-sections_of.ensures.one_line c.in-Err-sections_of.ensures.status in
+    (message, subst (λ s. IsMessage words asked s message) (sym c.refuse-in-Err-sections_of.ensures.status) says, c.refuse-in-Err-sections_of.ensures.said)
 
 pub returns-clause-said : goal.returns-clause-said
 returns-clause-said g c = λ _.
     let words = map string_bytes c.args.words.now in
-    (write_message, subst (λ s. IsMessage words s write_message) (sym c.refuse-in-Err-print_sections.ensures.status) (IsMessage-write words), c.refuse-in-Err-print_sections.ensures.said)
+    let asked = g.S.Source.asked c.read_input.new.source in
+    (write_message, subst (λ s. IsMessage words asked s write_message) (sym c.refuse-in-Err-print_sections.ensures.status) (IsMessage-write words asked), c.refuse-in-Err-print_sections.ensures.said)
+
+-- ---- what is asked of the source
+
+pub returns-in_default-clause-opened : goal.returns-in_default-clause-opened
+returns-in_default-clause-opened g c =
+    ReadsFront-none c.refuse.result (named_paths (map string_bytes c.args.words.now)) (g.S.Source.faults c.args.source.now) (g.S.Source.asked c.args.source.now) (λ e. let is = c.refuse.ensures.status in omega (arith, e, is))
+
+pub returns-in-Err-clause-opened : goal.returns-in-Err-clause-opened
+returns-in-Err-clause-opened g c =
+    ReadsFront-named (map string_bytes c.args.words.now) (paths_view c.in-Some.paths) (failure_status c.in-Err.failure) c.refuse-in-Err.result (g.S.Source.faults c.args.source.now) (g.S.Source.faults c.read_input.new.source) (g.S.Source.asked c.args.source.now) (g.S.Source.asked c.read_input.new.source) (sym c.in-Some.ensures) c.refuse-in-Err.ensures.status c.in-Err.ensures.asked
+
+pub returns-in-Err-sections_of-clause-opened : goal.returns-in-Err-sections_of-clause-opened
+returns-in-Err-sections_of-clause-opened g c =
+    let status = failure_status c.in-Err-sections_of.failure in
+    let paths = paths_view c.in-Some.paths in
+    let not_fault = IsOneOf-other text_statuses status 3 c.in-Err-sections_of.ensures.status refl in
+    let all = ReadsFront-status 0 status (all_paths paths) (g.S.Source.faults c.args.source.now) (g.S.Source.faults c.read_input.new.source) (g.S.Source.asked c.args.source.now) (g.S.Source.asked c.read_input.new.source) (λ e. omega (arith, e)) not_fault c.in-Ok.ensures.asked in
+    ReadsFront-named (map string_bytes c.args.words.now) paths status c.refuse-in-Err-sections_of.result (g.S.Source.faults c.args.source.now) (g.S.Source.faults c.read_input.new.source) (g.S.Source.asked c.args.source.now) (g.S.Source.asked c.read_input.new.source) (sym c.in-Some.ensures) c.refuse-in-Err-sections_of.ensures.status all
+
+pub returns-in-Ok-print_sections-clause-opened : goal.returns-in-Ok-print_sections-clause-opened
+returns-in-Ok-print_sections-clause-opened g c =
+    ReadsFront-named (map string_bytes c.args.words.now) (paths_view c.in-Some.paths) 0 c.code.result (g.S.Source.faults c.args.source.now) (g.S.Source.faults c.read_input.new.source) (g.S.Source.asked c.args.source.now) (g.S.Source.asked c.read_input.new.source) (sym c.in-Some.ensures) c.code.ensures c.in-Ok.ensures.asked
+
+pub returns-clause-opened : goal.returns-clause-opened
+returns-clause-opened g c =
+    let paths = paths_view c.in-Some.paths in
+    let all = ReadsFront-status 0 8 (all_paths paths) (g.S.Source.faults c.args.source.now) (g.S.Source.faults c.read_input.new.source) (g.S.Source.asked c.args.source.now) (g.S.Source.asked c.read_input.new.source) (λ e. omega (arith, e)) (λ e. omega (arith, e)) c.in-Ok.ensures.asked in
+    ReadsFront-named (map string_bytes c.args.words.now) paths 8 c.refuse-in-Err-print_sections.result (g.S.Source.faults c.args.source.now) (g.S.Source.faults c.read_input.new.source) (g.S.Source.asked c.args.source.now) (g.S.Source.asked c.read_input.new.source) (sym c.in-Some.ensures) c.refuse-in-Err-print_sections.ensures.status all
+
+-- ---- what is asked of the sink
+
+pub returns-in_default-clause-ends : goal.returns-in_default-clause-ends
+returns-in_default-clause-ends g c =
+    WritesUntilFailure-none c.refuse.result (g.K.Sink.faults c.args.out.now) (g.K.Sink.asked c.args.out.now) (λ e. let is = c.refuse.ensures.status in omega (arith, e, is))
+
+pub returns-in-Err-clause-ends : goal.returns-in-Err-clause-ends
+returns-in-Err-clause-ends g c =
+    let not_eight = IsOneOf-other reading_statuses (failure_status c.in-Err.failure) 8 c.in-Err.ensures.status refl in
+    WritesUntilFailure-none c.refuse-in-Err.result (g.K.Sink.faults c.args.out.now) (g.K.Sink.asked c.args.out.now) (λ e. not_eight (sym c.refuse-in-Err.ensures.status ∙ e))
+
+pub returns-in-Err-sections_of-clause-ends : goal.returns-in-Err-sections_of-clause-ends
+returns-in-Err-sections_of-clause-ends g c =
+    let not_eight = IsOneOf-other text_statuses (failure_status c.in-Err-sections_of.failure) 8 c.in-Err-sections_of.ensures.status refl in
+    WritesUntilFailure-none c.refuse-in-Err-sections_of.result (g.K.Sink.faults c.args.out.now) (g.K.Sink.asked c.args.out.now) (λ e. not_eight (sym c.refuse-in-Err-sections_of.ensures.status ∙ e))
+
+pub returns-in-Ok-print_sections-clause-ends : goal.returns-in-Ok-print_sections-clause-ends
+returns-in-Ok-print_sections-clause-ends g c =
+    WritesUntilFailure-all c.code.result _ _ _ _ (λ e. let is = c.code.ensures in omega (arith, e, is)) c.in-Ok-print_sections.ensures.cause.well c.in-Ok-print_sections.ensures.ends.well
+
+pub returns-clause-ends : goal.returns-clause-ends
+returns-clause-ends g c =
+    WritesUntilFailure-failed c.refuse-in-Err-print_sections.result _ _ _ _ c.refuse-in-Err-print_sections.ensures.status c.in-Err-print_sections.ensures.ends.once c.in-Err-print_sections.ensures.ends.last

@@ -1,5 +1,6 @@
 use Rattle.std.proofs.Common.{◌≡◌, ◌≤◌, max, vec_len}
 use Rattle.dwc_cli.specs.RunStatus.{most_bytes}
+use Rattle.dwc_cli.proofs.CallLaws.{IsOpen}
 use Rattle.dwc_cli.proofs.Loads.{IsFrontOf}
 use Rattle.dwc_cli.proofs.loading.load.Given as goal
 
@@ -11,5 +12,6 @@ invariant-loop g l = record {
   longest : g.S.Source.longest l.source ≡ max (g.S.Source.longest l.fn.source) (vec_len l.bytes);
   counted : l.counter ≤ vec_len l.bytes;
   within : vec_len l.bytes ≤ most_bytes;
-  later : g.S.Source.faults l.fn.source ≤ g.S.Source.faults l.source;
+  asked : IsOpen l.path (g.S.Source.asked l.fn.source) (g.S.Source.asked l.source);
+  same : g.S.Source.faults l.source ≡ g.S.Source.faults l.fn.source;
 }

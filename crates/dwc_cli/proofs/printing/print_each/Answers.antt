@@ -1,4 +1,4 @@
-use Rattle.std.proofs.Common.{◌++◌, subst, arith}
+use Rattle.std.proofs.Common.{◌++◌, ◌∙◌, subst, arith}
 use Rattle.std.proofs.lemmas.Result.{err_from_is_err_and}
 use Rattle.dwc_base.specs.Outputs.{section_view}
 use Rattle.dwc_cli.specs.Edge.{AppendsFront, Sends}
@@ -21,7 +21,8 @@ loop-section-preserved g c =
     let one = subst (λ s. Sends (g.K.Sink.written l.sink) l.page (g.K.Sink.written c.print_section.new.sink) c.print_section.new.page (printed_section (section_view s))) c.section-item.is c.in_ok-print_section.ensures.text in
     record {
       printed = Sends-next _ _ _ _ _ _ _ _ _ _ parts l.invariant.printed one;
-      later = omega (arith, c.in_ok-print_section.ensures.cause.later);
+      same = c.in_ok-print_section.ensures.cause.well ∙ l.invariant.same;
+      well = c.in_ok-print_section.ensures.ends.well ∙ l.invariant.well;
     }
 
 pub returns-clause-text : goal.returns-clause-text

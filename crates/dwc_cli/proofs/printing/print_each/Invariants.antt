@@ -1,6 +1,7 @@
-use Rattle.std.proofs.Common.{◌++◌, ◌≤◌, map, drop}
+use Rattle.std.proofs.Common.{◌≡◌, ◌++◌, map, drop}
 use Rattle.std.specs.List.{flat_map}
 use Rattle.dwc_base.specs.Outputs.{section_view}
+use Rattle.dwc_cli.specs.Calls.{failures}
 use Rattle.dwc_cli.specs.Edge.{Sends}
 use Rattle.dwc_cli.specs.Printed.{printed_section}
 use Rattle.dwc_cli.proofs.printing.print_each.Given as goal
@@ -9,5 +10,6 @@ use Rattle.dwc_cli.proofs.printing.print_each.Given as goal
 abbrev pub invariant-loop-section : goal.invariant-loop-section
 invariant-loop-section g l = record {
   printed : Sends (g.K.Sink.written l.fn.sink) l.fn.page (g.K.Sink.written l.sink) (l.page ++ flat_map printed_section (map section_view (drop l.section-index l.sections))) (flat_map printed_section (map section_view l.sections));
-  later : g.K.Sink.faults l.fn.sink ≤ g.K.Sink.faults l.sink;
+  same : g.K.Sink.faults l.sink ≡ g.K.Sink.faults l.fn.sink;
+  well : failures (g.K.Sink.asked l.sink) ≡ failures (g.K.Sink.asked l.fn.sink);
 }

@@ -1,4 +1,4 @@
-use Rattle.std.proofs.Common.{◌≡◌, ◌++◌, [], refl, arith}
+use Rattle.std.proofs.Common.{◌≡◌, ◌++◌, [], ◌∙◌, refl}
 use Rattle.std.proofs.lemmas.List.{take-append-drop}
 use Rattle.std.proofs.lemmas.Result.{err_from_is_err_and}
 use Rattle.hex.specs.Hex.{encode_lower}
@@ -20,7 +20,8 @@ loop-rest-preserved g c =
     let piece = Sends-push (g.K.Sink.written c.loop-rest.sink) c.loop-rest.page (g.K.Sink.written c.make_room.new.sink) c.make_room.new.page (encode_lower front) c.in_ok-make_room.ensures.text in
     record {
       printed = rw (c.push_hex.ensures) (Sends-next _ _ _ _ _ _ _ _ _ _ (hex_parts front back c.loop-rest.rest.now parts) c.loop-rest.invariant.printed piece);
-      later = omega (arith, c.in_ok-make_room.ensures.cause.later);
+      same = c.in_ok-make_room.ensures.cause.well ∙ c.loop-rest.invariant.same;
+      well = c.in_ok-make_room.ensures.ends.well ∙ c.loop-rest.invariant.well;
     }
 
 pub returns-clause-text : goal.returns-clause-text

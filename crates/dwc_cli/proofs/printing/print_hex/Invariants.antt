@@ -1,5 +1,6 @@
-use Rattle.std.proofs.Common.{◌++◌, ◌≤◌, length}
+use Rattle.std.proofs.Common.{◌≡◌, ◌++◌, length}
 use Rattle.hex.specs.Hex.{encode_lower}
+use Rattle.dwc_cli.specs.Calls.{failures}
 use Rattle.dwc_cli.specs.Edge.{Sends}
 use Rattle.dwc_cli.proofs.printing.print_hex.Given as goal
 
@@ -7,7 +8,8 @@ use Rattle.dwc_cli.proofs.printing.print_hex.Given as goal
 abbrev pub invariant-loop-rest : goal.invariant-loop-rest
 invariant-loop-rest g l = record {
   printed : Sends (g.K.Sink.written l.fn.sink) l.fn.page (g.K.Sink.written l.sink) (l.page ++ encode_lower l.rest) (encode_lower l.bytes);
-  later : g.K.Sink.faults l.fn.sink ≤ g.K.Sink.faults l.sink;
+  same : g.K.Sink.faults l.sink ≡ g.K.Sink.faults l.fn.sink;
+  well : failures (g.K.Sink.asked l.sink) ≡ failures (g.K.Sink.asked l.fn.sink);
 }
 
 abbrev pub decreases-loop-rest : goal.decreases-loop-rest

@@ -1,4 +1,4 @@
-use Rattle.std.proofs.Common.{arith}
+use Rattle.std.proofs.Common.{◌∙◌, arith}
 use Rattle.std.proofs.lemmas.Result.{err_from_is_err_and}
 use Rattle.dwc_base.specs.Outputs.{relocation_view}
 use Rattle.dwc_cli.specs.Printed.{printed_relocation}
@@ -16,7 +16,8 @@ loop-reloc-preserved g c =
     let parts = split-items printed_relocation relocation_view c.args.relocs.now c.loop-reloc.reloc-index _ c.loop-reloc-test.true in
     record {
       printed = Sends-next _ _ _ _ _ _ _ _ _ _ parts c.loop-reloc.invariant.printed c.in_ok-print_relocation.ensures.text;
-      later = omega (arith, c.in_ok-print_relocation.ensures.cause.later);
+      same = c.in_ok-print_relocation.ensures.cause.well ∙ c.loop-reloc.invariant.same;
+      well = c.in_ok-print_relocation.ensures.ends.well ∙ c.loop-reloc.invariant.well;
     }
 
 pub returns-clause-text : goal.returns-clause-text

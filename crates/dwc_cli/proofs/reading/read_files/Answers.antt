@@ -1,8 +1,9 @@
-use Rattle.std.proofs.Common.{map, string_bytes, refl}
+use Rattle.std.proofs.Common.{◌+◌, map, string_bytes, refl, arith}
 use Rattle.std.proofs.lemmas.Result.{err_from_is_err_and}
 use Rattle.dwc_cli.specs.Edge.{IsReadFile}
 use Rattle.dwc_cli.specs.Answers.{reading_statuses}
 use Rattle.dwc_cli.proofs.Statuses.{IsOneOf-from}
+use Rattle.dwc_cli.proofs.CallLaws.{ReadsFront-none, ReadsFront-status, ReadsFront-things, ReadsPaths-more}
 use Rattle.dwc_cli.proofs.NamedFiles.{read_to_end}
 use Rattle.dwc_cli.proofs.reading.read_files.Goals as goal
 
@@ -14,3 +15,26 @@ returns-in_err-push-clause-status g c =
 pub returns-clause-files_read : goal.returns-clause-files_read
 returns-clause-files_read g c =
     read_to_end (IsReadFile (g.S.Source.files c.args.source.now)) string_bytes c.args.paths.now c.loop-path.path-index (map (λ m. m.items) c.loop-path.files.items) c.loop-path-test.false c.loop-path.invariant.files_read
+
+pub returns-in_err-files-clause-asked : goal.returns-in_err-files-clause-asked
+returns-in_err-files-clause-asked g c =
+    let p = err_from_is_err_and c.from_residual.result c.from_residual.ensures.1 in
+    rw (p.1, p.2) (ReadsFront-none 9 (map string_bytes c.args.paths.now) (g.S.Source.faults c.args.source.now) (g.S.Source.asked c.args.source.now) (λ e. omega (arith, e)))
+
+pub returns-in_err-bytes-clause-asked : goal.returns-in_err-bytes-clause-asked
+returns-in_err-bytes-clause-asked g c =
+    let p = err_from_is_err_and c.from_residual-in_err-bytes.result c.from_residual-in_err-bytes.ensures.1 in
+    let l = c.loop-path in
+    let more = ReadsPaths-more string_bytes c.args.paths.now l.path-index c.path-item.result _ _ _ _ _ _ _ c.loop-path-test.true c.path-item.is l.invariant.asked (rw c.as_str.ensures.value at c.in_err-bytes.ensures.asked) in
+    rw (p.1, p.2) (ReadsFront-things string_bytes c.args.paths.now (l.path-index + 1) _ _ _ _ _ more)
+
+pub returns-in_err-push-clause-asked : goal.returns-in_err-push-clause-asked
+returns-in_err-push-clause-asked g c =
+    let p = err_from_is_err_and c.from_residual-in_err-push.result c.from_residual-in_err-push.ensures.1 in
+    let l = c.loop-path in
+    let more = ReadsPaths-more string_bytes c.args.paths.now l.path-index c.path-item.result 0 _ _ _ _ _ _ c.loop-path-test.true c.path-item.is l.invariant.asked (rw c.as_str.ensures.value at c.in_ok-bytes.ensures.asked) in
+    rw (p.1, p.2) (ReadsFront-status 0 9 (map string_bytes c.args.paths.now) _ _ _ _ (λ e. omega (arith, e)) (λ e. omega (arith, e)) (ReadsFront-things string_bytes c.args.paths.now (l.path-index + 1) 0 _ _ _ _ more))
+
+pub returns-clause-asked : goal.returns-clause-asked
+returns-clause-asked g c =
+    ReadsFront-things string_bytes c.args.paths.now c.loop-path.path-index 0 _ _ _ _ c.loop-path.invariant.asked

@@ -1,10 +1,12 @@
-use Rattle.std.proofs.Common.{◌≡◌, map, string_bytes, refl, ◌∙◌, sym, ap, subst}
+use Rattle.std.proofs.Common.{◌≡◌, [], ◌∷◌, map, string_bytes, Some, refl, ◌∙◌, sym, ap, subst}
 use Rattle.std.specs.Prelude.{Any}
 use Rattle.std.specs.List.{AllZip}
 use Rattle.std.proofs.lemmas.Result.{err_from_is_err_and}
+use Rattle.dwc_cli.specs.Calls.{ReadsPaths, ReadsFront}
 use Rattle.dwc_cli.specs.Edge.{IsLongFile, IsReadFile}
 use Rattle.dwc_cli.specs.Failures.{failure_status, failure_message, fault_message, length_message}
 use Rattle.dwc_cli.specs.Answers.{status_of, message_of}
+use Rattle.dwc_cli.proofs.CallLaws.{ReadsFront-behind}
 use Rattle.dwc_cli.proofs.NamedFiles.{Any-more}
 use Rattle.dwc_cli.proofs.reading.read_input.Goals as goal
 
@@ -42,3 +44,35 @@ returns-clause-input g c =
     let told = c.in_ok-map_file.ensures.file in
     let read = subst (λ fs. AllZip (IsReadFile fs) paths modules) c.in_ok-map_file.ensures.files c.in_ok-modules.ensures.files_read in
     (record { map_bytes = told.0; modules = modules }, record { map_is = told.2; modules = refl }, (told.1, read))
+
+pub returns-in_err-map_file-clause-asked : goal.returns-in_err-map_file-clause-asked
+returns-in_err-map_file-clause-asked g c =
+    let p = err_from_is_err_and c.from_residual.result c.from_residual.ensures.1 in
+    let status = ap status_of p.1 ∙ ap failure_status p.2 in
+    (1, subst (λ s. ReadsPaths s (c.args.paths.now.map_path.now ∷ []) (g.S.Source.faults c.args.source.now) (g.S.Source.faults c.read_map.new.source) (g.S.Source.asked c.args.source.now) (g.S.Source.asked c.read_map.new.source)) (sym status) c.in_err-map_file.ensures.asked)
+
+pub returns-in_err-modules-clause-asked : goal.returns-in_err-modules-clause-asked
+returns-in_err-modules-clause-asked g c =
+    let p = err_from_is_err_and c.from_residual-in_err-modules.result c.from_residual-in_err-modules.ensures.1 in
+    let status = ap status_of p.1 ∙ ap failure_status p.2 in
+    let paths = map string_bytes c.args.paths.now.module_paths.now in
+    let all = ReadsFront-behind _ c.args.paths.now.map_path.now paths _ _ _ _ _ _ c.in_ok-map_file.ensures.asked c.in_err-modules.ensures.asked in
+    subst (λ s. ReadsFront s (c.args.paths.now.map_path.now ∷ paths) (g.S.Source.faults c.args.source.now) (g.S.Source.faults c.read_files.new.source) (g.S.Source.asked c.args.source.now) (g.S.Source.asked c.read_files.new.source)) (sym status) all
+
+pub returns-in_err-modules-clause-fault_named : goal.returns-in_err-modules-clause-fault_named
+returns-in_err-modules-clause-fault_named g c = λ e.
+    let p = err_from_is_err_and c.from_residual-in_err-modules.result c.from_residual-in_err-modules.ensures.1 in
+    let status = sym (ap failure_status p.2) ∙ sym (ap status_of p.1) ∙ e in
+    let same = sym (ap failure_message p.2) ∙ sym (ap message_of p.1) in
+    c.in_err-modules.ensures.fault_named status ∙ ap Some same
+
+pub returns-in_err-modules-clause-length_named : goal.returns-in_err-modules-clause-length_named
+returns-in_err-modules-clause-length_named g c = λ e.
+    let p = err_from_is_err_and c.from_residual-in_err-modules.result c.from_residual-in_err-modules.ensures.1 in
+    let status = sym (ap failure_status p.2) ∙ sym (ap status_of p.1) ∙ e in
+    let same = sym (ap failure_message p.2) ∙ sym (ap message_of p.1) in
+    c.in_err-modules.ensures.length_named status ∙ ap Some same
+
+pub returns-clause-asked : goal.returns-clause-asked
+returns-clause-asked g c =
+    ReadsFront-behind 0 c.args.paths.now.map_path.now (map string_bytes c.args.paths.now.module_paths.now) _ _ _ _ _ _ c.in_ok-map_file.ensures.asked c.in_ok-modules.ensures.asked

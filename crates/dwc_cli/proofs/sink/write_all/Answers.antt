@@ -1,6 +1,7 @@
-use Rattle.std.proofs.Common.{take, drop, arith, length-drop}
+use Rattle.std.proofs.Common.{take, drop, ap, ◌∙◌, arith, length-drop}
 use Rattle.std.proofs.Math.Seq.{take-add}
 use Rattle.std.proofs.lemmas.List.{take_rest}
+use Rattle.dwc_cli.specs.Calls.{failures}
 use Rattle.dwc_cli.proofs.Writes.{Appended-append}
 use Rattle.dwc_cli.proofs.sink.write_all.Goals as goal
 
@@ -13,5 +14,6 @@ loop-sent-preserved g c =
     record {
       written = rw (take-add sent count bytes) (Appended-append _ (g.K.Sink.written c.loop-sent.sink) _ (take sent bytes) (take count (drop sent bytes)) c.loop-sent.invariant.written piece.2);
       within = omega (arith, length-drop sent bytes);
-      later = omega (arith, c.in_ok-sent.ensures.cause.later);
+      same = c.in_ok-sent.ensures.cause.well ∙ c.loop-sent.invariant.same;
+      well = ap failures c.in_ok-sent.ensures.asked ∙ c.loop-sent.invariant.well;
     }
