@@ -3,7 +3,7 @@
 
     run.py [PROGRAM] [--rounds N] [--only KIND ...] [--KIND N ...] [--real FOLDER]
 
-PROGRAM is crates/dwarfcarry/out/dwarfcarry unless it is given; the kinds are those of make_modules.py. A row shows the status and
+PROGRAM is crates/dwarfcarry/out/dwarfcarry unless it is given; the kinds are those of make_modules.py and hostile_modules.py. A row shows the status and
 the best of the rounds (one alone where it takes ten seconds): seconds, MB of wasm and of map a second, the peak memory, and the time
 beside that of the row above of the same kind, with the ratio of their sizes, which work that is linear in the module keeps to, and that of
 all bytes that are read and written: where names hold names, what is written grows faster than the module. With --real the pairs
@@ -18,7 +18,11 @@ import subprocess
 import tempfile
 import time
 
+import hostile_modules
 import make_modules
+
+make_modules.KINDS |= hostile_modules.KINDS
+make_modules.SIZES |= hostile_modules.SIZES
 
 DEFAULT = os.path.join(os.path.dirname(__file__), "..", "crates", "dwarfcarry", "out", "dwarfcarry")
 MB = 1_000_000

@@ -1,0 +1,126 @@
+"""Small modules that ask for much: the kinds of make_modules.py that stand on the small module.
+
+- tables_in_turn: N units that name two abbreviation tables of N declarations in turn.
+- ends_of_a_table: N units, each of which names the end of one table of N declarations from another declaration on.
+- one_list: N subprograms that name one range list of N pairs, which shows no code.
+
+For these the time still grows faster than what is read and written:
+
+- texts_of_one_hash: N names that the hash of the table of texts takes for one.
+- tails: N pointers that go by N constants into one chain of N constants.
+- nested_label: N attributes that ask for one label, whose N ranges lie one in another.
+- long_type: N functions without a symbol, of one type of N parameters.
+"""
+
+from make_modules import section, u32, uleb
+from small_module import PREAMBLE, function, line_table, module, unit
+
+ROOT_ENTRY = b"\x01" + u32(0)
+SUBPROGRAM_ENTRY = b"\x02" + u32(2) + u32(11)
+FIRST = 11 + len(ROOT_ENTRY) + len(SUBPROGRAM_ENTRY)  # where the first entry of the subprogram stands
+EXPRESSION_OF_A_LOCAL = bytes.fromhex("04 ED0003 9F")
+HASH_OF_ONE = (0x9E3779B97F4A7C15).to_bytes(8, "little")  # behind any eight bytes, these eight lead to one hash
+
+
+def declaration(code, tag, has_children, *attributes):
+    names = b"".join(uleb(name) + uleb(form) for name, form in attributes)
+    return uleb(code) + uleb(tag) + bytes([has_children]) + names + b"\0\0"
+
+
+ROOT = declaration(1, 0x11, True, (0x10, 0x17))
+SUBPROGRAM = declaration(2, 0x2E, True, (0x11, 0x01), (0x12, 0x06))
+
+
+def with_entries(declarations, entries, functions=None, others=()):
+    """A module of one unit: a root, a subprogram, and entries with the ends of both."""
+    table = ROOT + SUBPROGRAM + b"".join(declarations) + b"\0"
+    return module(table, unit(ROOT_ENTRY + SUBPROGRAM_ENTRY + entries), line_table(), others), functions or [function()]
+
+
+def units_at(table, offsets):
+    """A module of units with a subprogram each, which name tables at offsets."""
+    units = b"".join(unit(ROOT_ENTRY + SUBPROGRAM_ENTRY + b"\0\0", table=offset) for offset in offsets)
+    return module(table, units), [function()]
+
+
+def tables_in_turn_module(count):
+    table = ROOT + SUBPROGRAM + b"".join(declaration(3 + i, 0x34, False) for i in range(count)) + b"\0"
+    return units_at(table + table, [len(table) * (i % 2) for i in range(count)])
+
+
+def ends_of_a_table_module(count):
+    table, offsets = b"", []
+    for i in range(count):
+        offsets.append(len(table))
+        table += declaration(3 + i, 0x34, False)
+    return units_at(table + ROOT + SUBPROGRAM + b"\0", offsets)
+
+
+def one_list_module(count):
+    listed = declaration(3, 0x2E, False, (0x55, 0x17))
+    pairs = (u32(0) + u32(1)) * count + u32(0) * 2
+    return with_entries([listed], b"\0" + (b"\x03" + u32(0)) * count + b"\0", others=[(".debug_ranges", pairs)])
+
+
+def text_of(number):
+    """Eight bytes, none of them zero, that tell a number."""
+    digits = []
+    for _ in range(8):
+        digits.append(1 + number % 255)
+        number //= 255
+    return bytes(digits)
+
+
+def texts_of_one_hash_module(count):
+    named = declaration(3, 0x34, False, (0x03, 0x08))
+    return with_entries([named], b"".join(b"\x03" + text_of(i) + HASH_OF_ONE + b"\0" for i in range(count)) + b"\0\0")
+
+
+def tails_module(count):
+    tags = [(3, 0x0F), (5, 0x26), (6, 0x05)]
+    typed = [declaration(code, tag, False, (0x49, 0x13)) for code, tag in tags]
+    chain = FIRST + 5 * count + 1
+    base = chain + 5 * count
+    tails = base + 5
+    pointers = tails + 5 * count
+    links = lambda code, target, step: b"".join(bytes([code]) + u32(target + step * i) for i in range(count))
+    entries = links(6, pointers, 5) + b"\0" + links(5, chain + 5, 5) + b"\x04int\0" + links(5, chain, 0) + links(3, tails, 5) + b"\0"
+    return with_entries([*typed, declaration(4, 0x24, False, (0x03, 0x08))], entries)
+
+
+def nested_label_module(count):
+    sized = declaration(4, 0x34, False, (0x0B, 0x18))
+    ranges = [[i, 4 * count - i, "cfa", i % 40] for i in range(count)]
+    told = {**function(length=4 * count + 40), "labels": [[3, ranges]]}
+    return with_entries([sized], (b"\x04" + EXPRESSION_OF_A_LOCAL) * count + b"\0\0", [told])
+
+
+def long_type_module(count):
+    body = b"\0\x0B"
+    kind = b"\x60" + uleb(count) + b"\x7F" * count + b"\0"
+    code = uleb(count) + (uleb(len(body)) + body) * count
+    front = PREAMBLE + section(1, uleb(1) + kind) + section(3, uleb(count) + b"\0" * count) + section(10, code)
+    first = len(front) - len(code) + len(uleb(count)) + 1
+    begins = [first + i * (len(body) + 1) for i in range(count)]
+    return front, [function(None, at, at + len(body), 1, []) for at in begins]
+
+
+KINDS = {
+    "tables_in_turn": lambda n: [tables_in_turn_module(n)],
+    "ends_of_a_table": lambda n: [ends_of_a_table_module(n)],
+    "one_list": lambda n: [one_list_module(n)],
+    "texts_of_one_hash": lambda n: [texts_of_one_hash_module(n)],
+    "tails": lambda n: [tails_module(n)],
+    "nested_label": lambda n: [nested_label_module(n)],
+    "long_type": lambda n: [long_type_module(n)],
+}
+
+SIZES = {
+    "tables_in_turn": [20000, 40000],
+    "ends_of_a_table": [20000, 40000],
+    "one_list": [100000, 200000],
+    "texts_of_one_hash": [10000, 20000],
+    "tails": [2500, 5000],
+    "nested_label": [1000, 2000],
+    "long_type": [5000, 10000],
+}
