@@ -5,10 +5,12 @@ use Rattle.std.specs.List.Sorted.{IsStrictlySortedBy}
 use Rattle.std.specs.Ordering.{nat_cmp}
 use Rattle.dwc_base.specs.declared.translation.FunctionMeta.{FunctionMeta}
 use Rattle.dwc_base.specs.declared.translation.ModuleTranslation.{ModuleTranslation}
+use Rattle.dwc_base.specs.declared.translation.ParamTypes.{ParamTypes}
+use Rattle.dwc_base.specs.declared.translation.ValType.{ValType}
 use Rattle.dwc_base.specs.SortedEntries.{pair_cmp}
 use Rattle.dwc_base.specs.Wasm.{WasmModule}
 use Rattle.dwc_base.specs.ToldFiles.{ToldFile}
-use Rattle.dwc_base.specs.WasmFunctions.{LocalTypes, local_types}
+use Rattle.dwc_base.specs.WasmFunctions.{LocalTypes, local_types, value_type}
 use Rattle.dwc_base.specs.WasmNames.{name_of_module, names_of_functions, names_of_locals}
 
 -- a number and a name
@@ -31,9 +33,13 @@ told_function_names t = map (λ e. (e.0, (e.1).now)) t.func_names.items
 abbrev pub told_local_names : ModuleTranslation → List ((ℕ × ℕ) × List ℕ)
 told_local_names t = map (λ e. ((e.0, e.1), (e.2).now)) t.local_names.items
 
+-- the types of parameters
+abbrev pub param_types : ParamTypes → List ValType
+param_types p = map value_type p.bytes.now
+
 -- the types of a function's locals
 abbrev pub local_types_view : FunctionMeta → LocalTypes
-local_types_view f = record { params = f.params.items; locals = f.locals.items }
+local_types_view f = record { params = param_types f.params; locals = f.locals.items }
 
 -- the types of the locals of all functions
 abbrev pub told_local_types : ModuleTranslation → List LocalTypes

@@ -26,5 +26,5 @@ pub use records::{
 };
 pub use relocations::Relocations;
 pub use section_name::SectionName;
-pub use translation::{FunctionMeta, ModuleTranslation, ValType};
+pub use translation::{FunctionMeta, ModuleTranslation, ParamTypes, ValType};
 pub use wasm_sections::WasmSections;

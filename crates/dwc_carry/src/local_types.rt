@@ -5,10 +5,10 @@ ghost use Rattle.dwc_rules.specs.Carried.{Module};
 ghost use Rattle.dwc_carried.specs.DefinedFunctions.{DefinedFunction, types_at};
 ghost use Rattle.dwc_carried.specs.SimulatedUnit.{place_of_type};
 ghost use Rattle.dwc_base.specs.ToldFiles.{is_parameter, type_in_groups, type_of_local};
-ghost use Rattle.dwc_base.specs.TranslationNames.{told_file};
+ghost use Rattle.dwc_base.specs.TranslationNames.{param_types, told_file};
 ghost use Rattle.dwc_carry.specs.LocalGroups.{groups_from, types_of};
 
-use dwc_base::{ModuleTranslation, ValType};
+use dwc_base::{ModuleTranslation, ParamTypes, ValType};
 use std::alloc::{AllocError, Global};
 use std::marker::Model;
 
@@ -23,18 +23,19 @@ pub(crate) struct LocalGroup {
 /// The types of the locals of a function: those of its parameters, and the groups behind them.
 #[derive(Drop)]
 pub(crate) struct FunctionLocals<'a> {
-    params: &'a [ValType],
+    params: ParamTypes<'a>,
     groups: Vec<LocalGroup>,
 }
 
 impl<'a> Model for FunctionLocals<'a> {
     ghost use Rattle.std.specs.List.Sorted.{IsNonDecreasingBy};
+    ghost use Rattle.dwc_base.specs.TranslationNames.{param_types};
     ghost use Rattle.dwc_base.specs.WasmFunctions.{LocalTypes};
     ghost use Rattle.dwc_carry.specs.LocalGroups.{types_of};
 
     ghost Value = { LocalTypes };
 
-    ghost view = { λ l. types_of l.params.now l.groups.items };
+    ghost view = { λ l. types_of (param_types l.params) l.groups.items };
 
     ghost invariant = { λ l. IsNonDecreasingBy (λ g. g.end) l.groups.items };
 }
@@ -46,15 +47,15 @@ impl<'a> FunctionLocals<'a> {
     /// `AllocError` for want of memory, and for 2^64 locals or more.
     pub(crate) fn new(
         alloc: Global,
-        translation: &'a ModuleTranslation<'_>,
+        translation: &'a ModuleTranslation<'a>,
         place: usize,
     ) -> Result<FunctionLocals<'a>, AllocError>
         ensures { (m : Module) (d : DefinedFunction) → m.file ≡ told_file translation.now → d.place ≡ place → IfOk result (λ l. l ≡ types_at m d) }
     {
         match translation.funcs.get(place) {
-            Some(told) => Ok(FunctionLocals::of_groups(alloc, &told.params, &told.locals)?),
+            Some(told) => Ok(FunctionLocals::of_groups(alloc, told.params, &told.locals)?),
             None => Ok(FunctionLocals {
-                params: &[],
+                params: ParamTypes::new(&[]),
                 groups: Vec::new(alloc),
             }),
         }
@@ -63,10 +64,10 @@ impl<'a> FunctionLocals<'a> {
     // Those of parameters, and of groups with their sizes.
     fn of_groups(
         alloc: Global,
-        params: &'a [ValType],
+        params: ParamTypes<'a>,
         groups: &[(u32, ValType)],
     ) -> Result<FunctionLocals<'a>, AllocError>
-        ensures { IfOk result (λ l. l ≡ record { params = params.now; locals = groups.now }) }
+        ensures { IfOk result (λ l. l ≡ record { params = param_types params.entry; locals = groups.now }) }
     {
         let groups = ended_groups(alloc, groups)?;
         Ok(FunctionLocals { params, groups })
@@ -83,7 +84,7 @@ impl<'a> FunctionLocals<'a> {
     pub(crate) fn type_of(&self, local: u64) -> Option<ValType>
         ensures { result ≡ type_of_local self.now local }
     {
-        type_among(self.params, &self.groups, local)
+        type_among(&self.params, &self.groups, local)
     }
 }
 
@@ -110,13 +111,13 @@ fn ended_groups(alloc: Global, groups: &[(u32, ValType)]) -> Result<Vec<LocalGro
 }
 
 // The type of a local among parameters and the groups behind them.
-fn type_among(params: &[ValType], groups: &[LocalGroup], local: u64) -> Option<ValType>
+fn type_among(params: &ParamTypes<'_>, groups: &[LocalGroup], local: u64) -> Option<ValType>
     requires { IsNonDecreasingBy (λ g. g.end) groups.now }
-    ensures { result ≡ type_of_local (types_of params.now groups.now) local }
+    ensures { result ≡ type_of_local (types_of (param_types params.now) groups.now) local }
 {
     let count = params.len() as u64;
     if local < count {
-        Some(params[local as usize])
+        params.get(local as usize)
     } else {
         type_in_groups(groups, local - count)
     }

@@ -7,7 +7,7 @@ use Rattle.dwc_base.specs.declared.faults.NotRead.TheVariants.{OutOfMemory, Flaw
 use Rattle.dwc_base.specs.Cursors.{Fails}
 use Rattle.dwc_base.specs.Reading.{Unread, Read, ◌>>=◌, seen_as, uleb_at, counted_at}
 use Rattle.dwc_base.specs.WasmVectors.{readable_counted, readable_vector}
-use Rattle.dwc_wasm.specs.LentTypes.{first_or_none, first_of_vector}
+use Rattle.dwc_wasm.specs.Vectors.{first_or_none, first_of_vector}
 
 module _ {A : Type 0} (read : Unread → Read A) (count i : ℕ) (u : Unread) (done total : List A) where
   -- a thing more

@@ -1,4 +1,4 @@
-pub mod LentTypes
+pub mod Vectors
 pub mod NamesRead
 pub mod FunctionSections
 pub mod FileParts

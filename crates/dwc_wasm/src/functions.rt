@@ -3,24 +3,16 @@
 ghost use Rattle.std.specs.Prelude.{◌≡◌, ℕ, ◌<◌, List, ◌∷◌, map, Some, IfOk, IfSome, slice_get};
 ghost use Rattle.dwc_base.specs.Reading.{uleb_at, counted_at};
 ghost use Rattle.dwc_base.specs.WasmVectors.{vector_at, readable_counted, readable_vector};
-ghost use Rattle.dwc_base.specs.WasmFunctions.{value_type, value_types_at, parameter_types_at, body_at, local_group_at, local_groups, no_local_types, local_types_of, all_local_types};
-ghost use Rattle.dwc_base.specs.TranslationNames.{local_types_view};
+ghost use Rattle.dwc_base.specs.WasmFunctions.{value_types_at, parameter_types_at, body_at, local_group_at, local_groups, no_local_types, local_types_of, all_local_types};
+ghost use Rattle.dwc_base.specs.TranslationNames.{param_types, local_types_view};
 ghost use Rattle.dwc_base.specs.Cursors.{Gives, GivesOrMemory};
-ghost use Rattle.dwc_wasm.specs.LentTypes.{lent_types, first_of_vector, IsNext};
+ghost use Rattle.dwc_wasm.specs.Vectors.{first_of_vector, IsNext};
 
 use crate::fields::u32_number;
-use dwc_base::{Cursor, Flaw, FunctionMeta, NotRead, ValType};
+use dwc_base::{Cursor, Flaw, FunctionMeta, NotRead, ParamTypes, ValType};
 use std::alloc::{AllocError, Global};
 
-// The bytes of the value types that are told apart, and the one in front of a function type.
-const I32: u8 = 0x7F;
-
-const I64: u8 = 0x7E;
-
-const F32: u8 = 0x7D;
-
-const F64: u8 = 0x7C;
-
+// The byte in front of a function type.
 const FUNCTION_TYPE: u8 = 0x60;
 
 // A vector that is read thing by thing: how many are left, and a cursor at the next. Behind the first that cannot be read
@@ -39,7 +31,7 @@ pub(crate) fn function_types<'d>(
     types: Cursor<'d>,
     functions: Cursor<'d>,
     code: Cursor<'d>,
-) -> Result<Vec<FunctionMeta>, AllocError>
+) -> Result<Vec<FunctionMeta<'d>>, AllocError>
     ensures { IfOk result (λ funcs. map local_types_view funcs.items ≡ all_local_types (readable_vector parameter_types_at types.entry) (readable_vector uleb_at functions.entry) (readable_vector body_at code.entry)) }
 {
     let types = some_parameter_types(alloc, types)?;
@@ -49,13 +41,13 @@ pub(crate) fn function_types<'d>(
 }
 
 // The functions of the type numbers that can be read, each with the next body.
-fn all_functions(
+fn all_functions<'d>(
     alloc: Global,
-    types: &[&[u8]],
+    types: &[ParamTypes<'d>],
     numbers: &mut Vector<'_>,
     bodies: &mut Vector<'_>,
-) -> Result<Vec<FunctionMeta>, AllocError>
-    ensures { IfOk result (λ funcs. map local_types_view funcs.items ≡ all_local_types (map lent_types types.now) (readable_counted numbers.old.left uleb_at numbers.old.cursor) (readable_counted bodies.old.left body_at bodies.old.cursor)) }
+) -> Result<Vec<FunctionMeta<'d>>, AllocError>
+    ensures { IfOk result (λ funcs. map local_types_view funcs.items ≡ all_local_types (map param_types types.now) (readable_counted numbers.old.left uleb_at numbers.old.cursor) (readable_counted bodies.old.left body_at bodies.old.cursor)) }
 {
     let mut functions = Vec::new(alloc);
     while let Some(number) = next_number(numbers) {
@@ -66,13 +58,13 @@ fn all_functions(
 }
 
 // A function of a type, with the next body.
-fn next_function(
+fn next_function<'d>(
     alloc: Global,
-    types: &[&[u8]],
+    types: &[ParamTypes<'d>],
     number: u64,
     bodies: &mut Vector<'_>,
-) -> Result<FunctionMeta, AllocError>
-    ensures { IfOk result (λ f. (ns : List ℕ) → all_local_types (map lent_types types.now) (number ∷ ns) (readable_counted bodies.old.left body_at bodies.old.cursor) ≡ local_types_view f ∷ all_local_types (map lent_types types.now) ns (readable_counted bodies.new.left body_at bodies.new.cursor)) }
+) -> Result<FunctionMeta<'d>, AllocError>
+    ensures { IfOk result (λ f. (ns : List ℕ) → all_local_types (map param_types types.now) (number ∷ ns) (readable_counted bodies.old.left body_at bodies.old.cursor) ≡ local_types_view f ∷ all_local_types (map param_types types.now) ns (readable_counted bodies.new.left body_at bodies.new.cursor)) }
 {
     match next_body(bodies) {
         Some(body) => function_of(alloc, types, number, body),
@@ -81,64 +73,53 @@ fn next_function(
 }
 
 // A function by the number of its type and its body.
-fn function_of(
+fn function_of<'d>(
     alloc: Global,
-    types: &[&[u8]],
+    types: &[ParamTypes<'d>],
     number: u64,
     body: Cursor<'_>,
-) -> Result<FunctionMeta, AllocError>
-    ensures { IfOk result (λ f. local_types_view f ≡ local_types_of (slice_get (map lent_types types.now) number) (local_groups body.entry)) }
+) -> Result<FunctionMeta<'d>, AllocError>
+    ensures { IfOk result (λ f. local_types_view f ≡ local_types_of (slice_get (map param_types types.now) number) (local_groups body.entry)) }
 {
     match types.get(number as usize) {
-        Some(parameters) => function_with(alloc, parameters, body),
+        Some(params) => function_with(alloc, *params, body),
         None => Ok(unknown_function(alloc)),
     }
 }
 
 // A function by the types of its parameters and its body.
 #[tactic(auto, unfolding(dwc_base::specs::WasmFunctions::local_groups))]
-fn function_with(
+fn function_with<'d>(
     alloc: Global,
-    parameters: &[u8],
+    params: ParamTypes<'d>,
     mut body: Cursor<'_>,
-) -> Result<FunctionMeta, AllocError>
-    ensures { IfOk result (λ f. local_types_view f ≡ local_types_of (Some (map value_type parameters.now)) (local_groups body.entry)) }
+) -> Result<FunctionMeta<'d>, AllocError>
+    ensures { IfOk result (λ f. local_types_view f ≡ local_types_of (Some (param_types params.entry)) (local_groups body.entry)) }
 {
     match groups_of_locals(alloc, &mut body) {
-        Ok(locals) => {
-            let params = types_of_bytes(alloc, parameters)?;
-            Ok(FunctionMeta { params, locals })
-        }
+        Ok(locals) => Ok(FunctionMeta { params, locals }),
         Err(NotRead::OutOfMemory) => Err(AllocError),
         Err(NotRead::Flawed(_)) => Ok(unknown_function(alloc)),
     }
 }
 
 // A function of which nothing is told.
-fn unknown_function(alloc: Global) -> FunctionMeta
+fn unknown_function<'d>(alloc: Global) -> FunctionMeta<'d>
     ensures { local_types_view result ≡ no_local_types }
 {
     FunctionMeta {
-        params: Vec::new(alloc),
+        params: ParamTypes::new(&[]),
         locals: Vec::new(alloc),
     }
 }
 
-// The value types of some bytes.
-fn types_of_bytes(alloc: Global, bytes: &[u8]) -> Result<Vec<ValType>, AllocError>
-    ensures { IfOk result (λ types. types.items ≡ map value_type bytes.now) }
-{
-    let mut types = Vec::new(alloc);
-    for byte in bytes {
-        types.push(value_type(*byte))?;
-    }
-    Ok(types)
-}
-
-// The parameters of the types that can be read, each as its bytes.
+// The parameters of the types that can be read.
 #[tactic(auto, using(crate::proofs::VectorLaws::readable_first))]
-fn some_parameter_types<'d>(alloc: Global, cursor: Cursor<'d>) -> Result<Vec<&'d [u8]>, AllocError>
-    ensures { IfOk result (λ lent. map lent_types lent.items ≡ readable_vector parameter_types_at cursor.entry) }
+fn some_parameter_types<'d>(
+    alloc: Global,
+    cursor: Cursor<'d>,
+) -> Result<Vec<ParamTypes<'d>>, AllocError>
+    ensures { IfOk result (λ lent. map param_types lent.items ≡ readable_vector parameter_types_at cursor.entry) }
 {
     let mut types = vector_of(cursor);
     let mut lent = Vec::new(alloc);
@@ -160,8 +141,8 @@ fn vector_of<'d>(mut cursor: Cursor<'d>) -> Vector<'d>
 
 // The parameters of the next type.
 #[tactic(auto, using(crate::proofs::VectorLaws::readable_next, crate::proofs::VectorLaws::readable_stop, crate::proofs::VectorLaws::readable_none))]
-fn next_type<'d>(types: &mut Vector<'d>) -> Option<&'d [u8]>
-    ensures next { IsNext lent_types (readable_counted types.old.left parameter_types_at types.old.cursor) (readable_counted types.new.left parameter_types_at types.new.cursor) result }
+fn next_type<'d>(types: &mut Vector<'d>) -> Option<ParamTypes<'d>>
+    ensures next { IsNext param_types (readable_counted types.old.left parameter_types_at types.old.cursor) (readable_counted types.new.left parameter_types_at types.new.cursor) result }
     ensures fewer { IfSome result (λ _. types.new.left < types.old.left) }
 {
     if types.left == 0 {
@@ -220,10 +201,10 @@ fn next_body<'d>(bodies: &mut Vector<'d>) -> Option<Cursor<'d>>
     }
 }
 
-// A function type: the types of its parameters as bytes. Those of its results are passed.
+// A function type: the types of its parameters. Those of its results are passed.
 #[tactic(auto, unfolding(dwc_base::specs::WasmFunctions::parameter_types_at, dwc_base::specs::Wasm::byte_at))]
-fn parameter_types<'d>(cursor: &mut Cursor<'d>) -> Result<&'d [u8], Flaw>
-    ensures { Gives lent_types (parameter_types_at cursor.old) cursor.new result }
+fn parameter_types<'d>(cursor: &mut Cursor<'d>) -> Result<ParamTypes<'d>, Flaw>
+    ensures { Gives param_types (parameter_types_at cursor.old) cursor.new result }
 {
     let form = cursor.u8()?;
     if form != FUNCTION_TYPE {
@@ -234,14 +215,14 @@ fn parameter_types<'d>(cursor: &mut Cursor<'d>) -> Result<&'d [u8], Flaw>
     Ok(parameters)
 }
 
-// A vector of value types, as bytes.
+// A vector of value types.
 #[tactic(auto, unfolding(dwc_base::specs::WasmFunctions::value_types_at))]
-fn value_types<'d>(cursor: &mut Cursor<'d>) -> Result<&'d [u8], Flaw>
-    ensures { Gives lent_types (value_types_at cursor.old) cursor.new result }
+fn value_types<'d>(cursor: &mut Cursor<'d>) -> Result<ParamTypes<'d>, Flaw>
+    ensures { Gives param_types (value_types_at cursor.old) cursor.new result }
 {
     let size = cursor.uleb()?;
     let bytes = cursor.take(size as usize)?;
-    Ok(bytes)
+    Ok(ParamTypes::new(bytes))
 }
 
 // A body: its size, and as many bytes.
@@ -285,18 +266,5 @@ fn local_group(cursor: &mut Cursor<'_>) -> Result<(u32, ValType), Flaw>
 {
     let count = u32_number(cursor)?;
     let byte = cursor.u8()?;
-    Ok((count, value_type(byte)))
-}
-
-// The value type of a byte.
-fn value_type(byte: u8) -> ValType
-    ensures { result ≡ value_type byte }
-{
-    match byte {
-        I32 => ValType::I32,
-        I64 => ValType::I64,
-        F32 => ValType::F32,
-        F64 => ValType::F64,
-        _ => ValType::Other,
-    }
+    Ok((count, ValType::of_byte(byte)))
 }

@@ -1,13 +1,6 @@
--- Vectors that are read thing by thing, and the types of parameters that are lent as bytes.
-use Rattle.std.specs.Prelude.{◌≡◌, ℕ, List, [], ◌∷◌, map, Option, Some, None, Ok, Err}
-use Rattle.std.specs.Borrow.{Bor}
-use Rattle.dwc_base.specs.declared.translation.ValType.{ValType}
+-- Vectors that are read thing by thing.
+use Rattle.std.specs.Prelude.{◌≡◌, ℕ, List, [], ◌∷◌, Option, Some, None, Ok, Err}
 use Rattle.dwc_base.specs.Reading.{Unread, Read, uleb_at}
-use Rattle.dwc_base.specs.WasmFunctions.{value_type}
-
--- the value types of bytes that are lent
-abbrev pub lent_types : Bor (List ℕ) → List ValType
-lent_types x = map value_type x.now
 
 -- how many things a vector has, and where the first stands; none where the count cannot be read
 abbrev pub first_or_none : Unread → Read ℕ → ℕ × Unread
