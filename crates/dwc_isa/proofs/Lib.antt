@@ -1,5 +1,6 @@
 pub mod FlatLaws
 pub mod LabelLaws
+pub mod LabelRegisterLaws
 pub mod ListEnds
 pub mod LocLaws
 pub mod OverlayLaws

@@ -1,5 +1,6 @@
 pub mod CallFrames
 pub mod FlatRanges
+pub mod LabelRegisters
 pub mod Registers
 pub mod Targets
 pub mod ValueLabels

@@ -6,6 +6,7 @@ mod cie;
 mod flat;
 mod frame_op;
 mod isa;
+mod label_registers;
 mod memory_offset;
 mod reg;
 mod table_isa;

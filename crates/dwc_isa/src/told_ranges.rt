@@ -2,10 +2,12 @@
 ghost use Rattle.std.specs.Prelude.{◌≡◌, false, map, nat_lt, true, IfOk, IfSome, None};
 ghost use Rattle.std.specs.List.{list_any};
 ghost use Rattle.dwc_isa.specs.FlatRanges.{Flattens, IsFlat, IsFlatForm, goes_on as range_goes_on, goes_on_last as range_goes_on_last};
+ghost use Rattle.dwc_isa.specs.LabelRegisters.{HaveSame, register_numbers, registers_of};
 ghost use Rattle.dwc_isa.specs.ValueLabels.{range_view};
 
-use crate::ValueLocRange;
 use crate::flat::flattened;
+use crate::label_registers::registers_of_many;
+use crate::{Reg, ValueLocRange};
 use std::alloc::AllocError;
 use std::marker::Model;
 
@@ -25,12 +27,16 @@ enum FlatForm {
 pub struct ToldRanges {
     ranges: Vec<ValueLocRange>,
     form: FlatForm,
+    // The registers of many ranges, each once. Most labels have few ranges, for which none are kept.
+    registers: Option<Box<Vec<Reg>>>,
 }
 
 impl Model for ToldRanges {
     ghost use Rattle.std.specs.Prelude.{List, map};
     ghost use Rattle.dwc_native.specs.Compiled.{LabelRange};
+    ghost use Rattle.std.specs.Prelude.{IfSome};
     ghost use Rattle.dwc_isa.specs.FlatRanges.{IsFlatForm};
+    ghost use Rattle.dwc_isa.specs.LabelRegisters.{HaveSame, register_numbers, registers_of};
     ghost use Rattle.dwc_isa.specs.ValueLabels.{range_view, ranges_code};
 
     ghost Value = { List LabelRange };
@@ -39,7 +45,7 @@ impl Model for ToldRanges {
 
     ghost view = { λ t. map range_view t.ranges.items };
 
-    ghost invariant = { λ t. IsFlatForm (map range_view t.ranges.items) t.form };
+    ghost invariant = { λ t. IsFlatForm (map range_view t.ranges.items) t.form × IfSome t.registers (λ rs. HaveSame (register_numbers rs.value.items) (registers_of (map range_view t.ranges.items))) };
 }
 
 impl ToldRanges {
@@ -47,7 +53,12 @@ impl ToldRanges {
         ensures { IfOk result (λ told. told ≡ map range_view ranges.items) }
     {
         let form = flat_form(&ranges)?;
-        Ok(ToldRanges { ranges, form })
+        let registers = registers_of_many(&ranges)?;
+        Ok(ToldRanges {
+            ranges,
+            form,
+            registers,
+        })
     }
 
     /// The ranges.
@@ -68,6 +79,16 @@ impl ToldRanges {
             FlatForm::Given => Some(&self.ranges),
             FlatForm::Made(flat) => Some(flat.as_ref()),
             FlatForm::Reversed => None,
+        }
+    }
+
+    /// The registers in which the value lies in one of the ranges, each once. None where there are few ranges.
+    pub fn registers(&self) -> Option<&[Reg]>
+        ensures { IfSome result (λ rs. HaveSame (register_numbers rs.now) (registers_of self.now)) }
+    {
+        match &self.registers {
+            Some(registers) => Some(registers.as_ref()),
+            None => None,
         }
     }
 }

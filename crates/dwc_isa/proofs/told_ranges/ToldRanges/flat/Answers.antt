@@ -6,4 +6,4 @@ use Rattle.dwc_isa.proofs.told_ranges.ToldRanges.flat.Goals as goal
 
 pub returns-in-Given-clause-good : goal.returns-in-Given-clause-good
 returns-in-Given-clause-good c =
-    rw (← c.self.view_is) (none-reversed (map range_view c.self.inside.ranges.items) (subst (IsFlatForm (map range_view c.self.inside.ranges.items)) c.in-Given.is c.self.invariant).nonempty)
+    rw (← c.self.view_is) (none-reversed (map range_view c.self.inside.ranges.items) (subst (IsFlatForm (map range_view c.self.inside.ranges.items)) c.in-Given.is c.self.invariant.0).nonempty)
