@@ -4,12 +4,12 @@
 - ends_of_a_table: N units, each of which names the end of one table of N declarations from another declaration on.
 - one_list: N subprograms that name one range list of N pairs, which shows no code.
 - long_type: N functions without a symbol, of one type of N parameters.
-
-For these the time still grows faster than what is read and written:
-
-- texts_of_one_hash: N names that the hash of the table of texts takes for one.
-- tails: N pointers that go by N constants into one chain of N constants.
+- texts_of_one_hash: N names that have one number in the table of texts.
 - nested_label: N attributes that ask for one label, whose N ranges lie one in another.
+
+For this the time still grows faster than what is read and written:
+
+- tails: N pointers that go by N constants into one chain of N constants.
 """
 
 from make_modules import section, u32, uleb
@@ -119,7 +119,7 @@ SIZES = {
     "tables_in_turn": [20000, 40000],
     "ends_of_a_table": [20000, 40000],
     "one_list": [100000, 200000],
-    "texts_of_one_hash": [10000, 20000],
+    "texts_of_one_hash": [40000, 80000],
     "tails": [2500, 5000],
     "nested_label": [1000, 2000],
     "long_type": [20000, 40000],

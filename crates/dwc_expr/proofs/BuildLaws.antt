@@ -23,6 +23,7 @@ use Rattle.dwc_expr.specs.LabelRanges.{Gathered, gathered_frame, gathered_of, ha
 use Rattle.dwc_expr.specs.NeededLabels.{HaveSameFirsts, with_labels}
 use Rattle.dwc_expr.specs.RangeExpressions.{IsLowRange, location_on, jumps_refused}
 use Rattle.dwc_expr.specs.Refusals.{IsFirst, TellsFirst, refusals_on}
+use Rattle.dwc_expr.specs.Varying.{Varies}
 use Rattle.dwc_expr.proofs.FirstLaws.{same-first}
 use Rattle.dwc_expr.proofs.RangeLaws.{AreGathered, low-ranges, same-cover, expressions-are, jumps-are, places-are}
 use Rattle.dwc_expr.proofs.RefusalLaws.{first-append}
@@ -192,3 +193,10 @@ pub built-of-parts : (s : Surroundings) (scope : List (ℕ × ℕ)) (parts : Lis
 built-of-parts s scope parts wanted y result same none some built =
     let x : CompiledParts = record { parts = parts; need_deref = wanted } in
     subst (λ z. Builds (built_over s scope z) result) same (subst (λ r. Builds r result) (sym (over-parts s scope x (some-interval scope some) none)) (built x (parts-all x none)))
+
+-- the same where no one expression holds for each byte
+pub varies-of-parts : (s : Surroundings) (scope : List (ℕ × ℕ)) (parts : List Part) (wanted : Bool) (y : CompiledParts) → ◌≡◌ {A = CompiledParts} (record { parts = parts; need_deref = wanted }) y → None ≡ single_code parts → false ≡ (length scope == 0)
+    → ((x : CompiledParts) → built_parts x ≡ parts ++ (if wanted then dereference ∷ [] else []) → Varies (built_on_ranges s (scope_ranges s.functions scope) x)) → Varies (built_over s scope y)
+varies-of-parts s scope parts wanted y same none some built =
+    let x : CompiledParts = record { parts = parts; need_deref = wanted } in
+    subst (λ z. Varies (built_over s scope z)) same (subst Varies (sym (over-parts s scope x (some-interval scope some) none)) (built x (parts-all x none)))

@@ -31,5 +31,6 @@ pub mod ScopeLaws
 pub mod SettingLaws
 pub mod ShortLaws
 pub mod StayLaws
+pub mod VaryingLaws
 mod StepLaws
 mod WholeLaws

@@ -24,4 +24,5 @@ pub mod Refusals
 pub mod Rules
 pub mod Steps
 pub mod Supported
+pub mod Varying
 pub mod WholeParts

@@ -12,3 +12,4 @@ pub(crate) mod pads;
 pub(crate) mod parts_to_build;
 pub(crate) mod places;
 pub(crate) mod setting;
+mod varying;

@@ -1,20 +1,22 @@
 -- What attributes become whose values are expressions.
-use Rattle.std.proofs.Common.{◌≡◌, ℕ, ◌==◌, ◌&&◌, List, [], ◌∷◌, length, get_or, map, true, false, Bool, Some, None, Ok, Err, refl, sym, ap, subst, ◌∙◌}
+use Rattle.std.proofs.Common.{◌≡◌, ℕ, ◌==◌, ◌&&◌, List, [], ◌∷◌, length, get_or, map, true, false, if◌then◌else◌, Bool, Some, None, Ok, Err, refl, sym, ap, subst, ◌∙◌}
 use Rattle.std.specs.Prelude.{◌≢◌, Option, Result}
 use Rattle.std.proofs.lemmas.Bool.{ne_eqb}
 use Rattle.dwc_base.specs.declared.records.Address.{Address}
 use Rattle.dwc_base.specs.declared.section_name.SectionName.{SectionName}
 use Rattle.dwc_base.specs.declared.constants.TheConstants.{DW_AT_frame_base}
-use Rattle.dwc_dwarf.specs.Trees.{TreeValue, expression}
+use Rattle.dwc_dwarf.specs.Trees.{Location, TreeValue, expression, locations}
+use Rattle.dwc_dwarf.specs.Values.{is_location_name}
 use Rattle.dwc_native.specs.Parts.{CompiledParts, compiled}
-use Rattle.dwc_native.specs.BuiltExpressions.{Surroundings, built_over}
-use Rattle.dwc_rules.specs.LocationAttributes.{GivenExpression, InForce, LocationRefusal, base_for, built_at, compiled_at, output_frame_base, read_expression, value_of_attribute, value_of_built, value_of_expression, value_of_parts}
+use Rattle.dwc_native.specs.BuiltExpressions.{BuildRefusal, BuiltExpressions, Surroundings, built_over}
+use Rattle.dwc_rules.specs.LocationAttributes.{GivenExpression, InForce, LocationRefusal, are_equal_to, base_for, built_at, compiled_at, output_frame_base, read_expression, value_of_attribute, value_of_built, value_of_expression, value_of_locations_built, value_of_parts, value_over}
 use Rattle.dwc_unit.specs.declared.expressions.Expression.{Expression}
 use Rattle.dwc_expr.specs.declared.build.built.BuiltCompiledExpression.{BuiltCompiledExpression}
 use Rattle.dwc_expr.specs.declared.error.ExprError.{ExprError}
 use Rattle.dwc_expr.specs.declared.error.ExprError.TheVariants.{Read, TooLarge, BadLabelRange, InvalidAttributeValue, UnmappedRegister, OutOfMemory}
 use Rattle.dwc_expr.specs.Builds.{Builds, built_view, location_view}
 use Rattle.dwc_expr.specs.Compiles.{TellsPlace}
+use Rattle.dwc_expr.specs.Varying.{Varies, is_one}
 use Rattle.dwc_extents.specs.LocationValues.{GivesTold, RefusesTold, are_alike, error_at, expression_at, told}
 
 -- ---- compiled where they stand
@@ -81,3 +83,20 @@ pub one-built : (name : ℕ) (es : List (Address × ℕ × Expression)) (covers 
     → Some (expression first) ≡ value_of_built name (record { expressions = map location_view es; covers_entire_scope = covers })
 one-built name [] covers first some is same = absurd (cc)
 one-built name (e ∷ es) covers first some is same = rw same (ap {B = Option TreeValue} (λ (x : Expression). Some (expression x)) (is e))
+
+-- ---- what varies over a scope
+
+-- where no one expression holds for each byte, nothing is built under a name that is no location name
+none-built : (name : ℕ) (covers : Bool) (ls : List Location) → is_location_name name ≡ false → is_one covers ls ≡ false → value_of_locations_built name covers ls ≡ None
+none-built name covers [] named varies = refl
+none-built name covers (l ∷ ls) named varies =
+    ap {B = Option TreeValue} (λ b. if b then Some (expression l.bytes) else (if is_location_name name then Some (locations (l ∷ ls)) else None)) varies
+    ∙ ap {B = Option TreeValue} (λ b. if b then Some (locations (l ∷ ls)) else None) named
+
+pub varies-nothing : (name : ℕ) (s : Surroundings) (scope : List (ℕ × ℕ)) (x : CompiledParts) → is_location_name name ≡ false → Varies (built_over s scope x) → value_over name s x (Some scope) ≡ Ok None
+unfolding built_at
+varies-nothing name s scope x named varies = go (built_over s scope x) refl varies
+  where
+    go : (r : Result BuiltExpressions BuildRefusal) → built_over s scope x ≡ r → Varies r → value_over name s x (Some scope) ≡ Ok None
+    go (Ok b) is v = rw (is, built_at) (ap {B = Result (Option TreeValue) LocationRefusal} (λ o. Ok o) (none-built name b.covers_entire_scope b.expressions named v))
+    go (Err refusal) is v = absurd v

@@ -1,5 +1,5 @@
 //! What attributes become whose values are expressions. (DWARF 4 and 5, section 2.6.)
-ghost use Rattle.std.specs.Prelude.{◌≡◌, ℕ, ◌<◌, ◌&&◌, [], List, map, length, option_map, slice_index_or, IfOk};
+ghost use Rattle.std.specs.Prelude.{◌≡◌, ℕ, ◌<◌, ◌&&◌, [], List, map, length, option_map, slice_index_or, true, IfOk, None, Ok, Some};
 ghost use Rattle.std.specs.Option.{unwrap_or};
 ghost use Rattle.dwc_native.specs.Functions.{Function};
 ghost use Rattle.dwc_rules.specs.LocationAttributes.{are_equal_to as are_equal, output_frame_base as frame_base_bytes, read_expression, value_of_built, value_of_code, value_of_expression, value_of_parts, value_over};
@@ -104,6 +104,25 @@ fn value_of_code(
     Ok(Some(LocationValue::Expression(code)))
 }
 
+// Whether it is known at once that nothing becomes of a compiled expression over a scope, and that it is not refused: one under a name
+// that is no location name is nothing where it varies.
+fn becomes_nothing(
+    alloc: Global,
+    transform: &AddressTransform<'_>,
+    isa: &dyn TargetIsa,
+    in_force: &InForce<'_>,
+    name: u16,
+    scope: &[(u64, u64)],
+    parts: &CompiledExpression,
+) -> bool
+    ensures { result ≡ true → value_over name (in_force_view transform.now (dwarf_registers isa.now) in_force.now).surroundings parts.now (Some scope.now) ≡ Ok None }
+{
+    if is_location_name(name) {
+        return false;
+    }
+    parts.varies_over(alloc, scope, transform, in_force.frame, isa)
+}
+
 // What a compiled expression becomes over the scope in force, if there is one.
 fn value_over(
     alloc: Global,
@@ -118,6 +137,9 @@ fn value_over(
     let Some(scope) = in_force.scope else {
         return Ok(None);
     };
+    if becomes_nothing(alloc, transform, isa, in_force, name, scope, parts) {
+        return Ok(None);
+    }
     let built = build_over(alloc, transform, isa, in_force, scope, parts)?;
     Ok(value_of_built(name, built))
 }

@@ -178,7 +178,7 @@ fn put_in(
 }
 
 // The bytes that a range has in a piece, if there are any.
-fn part_in(range: CodeRange, piece: &ValueLocRange) -> Option<CodeRange>
+pub(crate) fn part_in(range: CodeRange, piece: &ValueLocRange) -> Option<CodeRange>
     ensures part { cut_by 0 (code_range_view range) (range_view piece.now) ≡ option_map (part_at piece.now.loc) result }
     ensures some { IfSome result (λ p. p.start < p.end) }
     ensures low { range.end < 2 ^ 32 → IfSome result (λ p. p.end < 2 ^ 32) }
@@ -232,7 +232,7 @@ fn extent_of(part: CodeRange) -> (Address, u64)
 }
 
 // The expression of a local by its place.
-fn expression_at(
+pub(crate) fn expression_at(
     alloc: Global,
     trailing: bool,
     place: LabelValueLoc,

@@ -78,7 +78,7 @@ impl CompiledExpression {
 }
 
 // The operations of parts that are operations alone.
-fn single_code(parts: &[CompiledExpressionPart]) -> Option<&[u8]>
+pub(crate) fn single_code(parts: &[CompiledExpressionPart]) -> Option<&[u8]>
     ensures { option_map (λ code. code.now) result ≡ code_alone (map part_view parts.now) }
 {
     match parts {

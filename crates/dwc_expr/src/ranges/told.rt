@@ -41,7 +41,7 @@ pub(crate) fn flat_ranges<'a>(
 }
 
 // The ranges in which a label has places, if it is told of.
-fn told_ranges<'a>(
+pub(crate) fn told_ranges<'a>(
     frame: Option<&'a FunctionFrameInfo<'a>>,
     label: ValueLabel,
 ) -> Option<&'a ToldRanges>
