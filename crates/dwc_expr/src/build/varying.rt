@@ -1,5 +1,5 @@
 //! Scopes over which it is known at once that no one expression holds for each byte.
-ghost use Rattle.std.specs.Prelude.{◌≡◌, ◌∷◌, ◌<◌, ◌≤◌, [], ℕ, List, Option, false, is_some, length, map, nat_lt, option_map, slice_index_or, true, Bool};
+ghost use Rattle.std.specs.Prelude.{◌≡◌, ◌∷◌, ◌<◌, [], ℕ, List, Option, false, is_some, length, map, nat_lt, option_map, slice_index_or, true, Bool};
 ghost use Rattle.std.specs.FinMap as finite;
 ghost use Rattle.std.specs.List.{list_all, list_any};
 ghost use Rattle.std.specs.Str.{bytes_eq};
