@@ -6,10 +6,12 @@
 - long_type: N functions without a symbol, of one type of N parameters.
 - texts_of_one_hash: N names that have one number in the table of texts.
 - nested_label: N attributes that ask for one label, whose N ranges lie one in another.
+- tails: N pointers that go by N constants into one chain of N constants.
+- tails_of_two: N pointers that go by N constants of N constants into one chain of N constants.
 
 For this the time still grows faster than what is read and written:
 
-- tails: N pointers that go by N constants into one chain of N constants.
+- tails_into_a_ring: N pointers that go by N constants into one ring of N pointers, at one place.
 """
 
 from make_modules import section, u32, uleb
@@ -76,16 +78,31 @@ def texts_of_one_hash_module(count):
     return with_entries([named], b"".join(b"\x03" + text_of(i) + HASH_OF_ONE + b"\0" for i in range(count)) + b"\0\0")
 
 
-def tails_module(count):
+def links(code, target, step, count):
+    """Entries of a code that refer to a target and to what stands behind it, so many bytes each."""
+    return b"".join(bytes([code]) + u32(target + step * i) for i in range(count))
+
+
+def with_types(count, types, pointers):
+    """A module of N parameters that have N pointers as their types, and of the types that stand in front of the pointers."""
     tags = [(3, 0x0F), (5, 0x26), (6, 0x05)]
     typed = [declaration(code, tag, False, (0x49, 0x13)) for code, tag in tags]
+    parameters = links(6, FIRST + len(types) + 5 * count + 1, 5, count)
+    return with_entries([*typed, declaration(4, 0x24, False, (0x03, 0x08))], parameters + b"\0" + types + pointers + b"\0")
+
+
+def tails_module(count, levels=1):
     chain = FIRST + 5 * count + 1
-    base = chain + 5 * count
-    tails = base + 5
-    pointers = tails + 5 * count
-    links = lambda code, target, step: b"".join(bytes([code]) + u32(target + step * i) for i in range(count))
-    entries = links(6, pointers, 5) + b"\0" + links(5, chain + 5, 5) + b"\x04int\0" + links(5, chain, 0) + links(3, tails, 5) + b"\0"
-    return with_entries([*typed, declaration(4, 0x24, False, (0x03, 0x08))], entries)
+    types = links(5, chain + 5, 5, count) + b"\x04int\0" + links(5, chain, 0, count)
+    for _ in range(levels - 1):
+        types += links(5, chain + len(types) - 5 * count, 5, count)
+    return with_types(count, types, links(3, chain + len(types) - 5 * count, 5, count))
+
+
+def tails_into_a_ring_module(count):
+    ring = FIRST + 5 * count + 1
+    types = links(3, ring + 5, 5, count - 1) + links(3, ring, 0, 1) + links(5, ring, 0, count)
+    return with_types(count, types, links(3, ring + 5 * count, 5, count))
 
 
 def nested_label_module(count):
@@ -111,6 +128,8 @@ KINDS = {
     "one_list": lambda n: [one_list_module(n)],
     "texts_of_one_hash": lambda n: [texts_of_one_hash_module(n)],
     "tails": lambda n: [tails_module(n)],
+    "tails_of_two": lambda n: [tails_module(n, 2)],
+    "tails_into_a_ring": lambda n: [tails_into_a_ring_module(n)],
     "nested_label": lambda n: [nested_label_module(n)],
     "long_type": lambda n: [long_type_module(n)],
 }
@@ -120,7 +139,9 @@ SIZES = {
     "ends_of_a_table": [20000, 40000],
     "one_list": [100000, 200000],
     "texts_of_one_hash": [40000, 80000],
-    "tails": [2500, 5000],
-    "nested_label": [1000, 2000],
+    "tails": [20000, 40000],
+    "tails_of_two": [20000, 40000],
+    "tails_into_a_ring": [2500, 5000],
+    "nested_label": [10000, 20000],
     "long_type": [20000, 40000],
 }

@@ -18,7 +18,8 @@ use Rattle.dwc_types.specs.declared.type_entry.TypeEntry.{TypeEntry}
 use Rattle.dwc_types.specs.declared.type_name.DerivedType.{DerivedType}
 use Rattle.dwc_types.specs.declared.type_name.TypeStep.TheVariants.{Derived}
 use Rattle.dwc_types.specs.DerivedTypes.{met_in}
-use Rattle.dwc_types.specs.KnownNames.{EndsSo, IsFresh, IsRead}
+use Rattle.dwc_types.specs.KnownNames.{IsFresh}
+use Rattle.dwc_types.specs.TypeReads.{EndsSo, IsRead}
 use Rattle.dwc_source.specs.Sources.{IsEmitted, IsSource}
 use Rattle.dwc_types.specs.TypeChains.{GivesRead, behind, behind_name, in_front, named_chain, type_found, type_view}
 use Rattle.dwc_types.specs.TypeSteps.{GivesStep, IsOfType, ReadsStep}
@@ -42,7 +43,7 @@ turned a b = go (a == b) (b == a) refl refl
         cc-false h = absurd (cc)
     go false false is other = refl
 
-with-parts : (tag : ℕ) (name : List ℕ) → with_tag tag name ≡ front_name tag ++ (name ++ behind_name tag)
+pub with-parts : (tag : ℕ) (name : List ℕ) → with_tag tag name ≡ front_name tag ++ (name ++ behind_name tag)
 with-parts tag name = go (DW_TAG_const_type == tag) refl
   where
     chosen : Bool → Bool → Bool → Bool → Option (List ℕ → List ℕ)

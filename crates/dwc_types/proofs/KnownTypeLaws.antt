@@ -17,7 +17,8 @@ use Rattle.dwc_types.specs.declared.type_name.TypeStep.TheVariants.{Last}
 use Rattle.dwc_source.specs.Sources.{IsEmitted, IsSource}
 use Rattle.dwc_types.specs.TypeSteps.{ReadsStep}
 use Rattle.dwc_types.specs.DerivedTypes.{at_walk, end_of, is_at, is_found, met_in}
-use Rattle.dwc_types.specs.KnownNames.{EndsSo, IsAway, IsFresh, IsKept, IsRead, KnowsTypes}
+use Rattle.dwc_types.specs.KnownNames.{IsAway, IsFresh, IsKept, KnowsTypes}
+use Rattle.dwc_types.specs.TypeReads.{EndsSo, IsRead}
 use Rattle.dwc_types.proofs.ChainWalkLaws.{turned}
 use Rattle.dwc_types.proofs.DerivedTypeLaws.{at-behind, at-changed, stands-at, unmet-all}
 

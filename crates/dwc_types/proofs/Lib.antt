@@ -10,3 +10,6 @@ pub mod RingTextLaws
 pub mod TypeRingLaws
 pub mod RingWalkLaws
 pub mod WrapperTextLaws
+pub mod KeyedTypeLaws
+pub mod TypeKeyLaws
+pub mod KeyNameLaws

@@ -21,10 +21,12 @@ use Rattle.dwc_types.specs.KnownNames.{AreOwnNames, AreWrapperNames, GivesNumber
 use Rattle.dwc_source.specs.KnownTexts.{IsNumbered}
 use Rattle.dwc_source.specs.MadeValues.{Grows}
 use Rattle.dwc_source.specs.Sources.{IsSource}
+use Rattle.dwc_types.specs.KeyedTypes.{KnowsKeys}
 use Rattle.dwc_types.specs.TypeChains.{GivesRead, type_found, type_view}
 use Rattle.dwc_types.specs.TypeSteps.{IsOfType}
 use Rattle.dwc_source.proofs.KnownLaws.{numbered-grown}
 use Rattle.dwc_types.proofs.TypeFoundLaws.{same-type}
+use Rattle.dwc_types.proofs.TypeKeyLaws.{keys-grown}
 use Rattle.dwc_types.proofs.TypeStepLaws.{gives-none}
 
 -- A name that is told of each entry of a type but one gives the wrappers of all that are pointers, or are none, the same name.
@@ -77,38 +79,42 @@ names-grown c s old new names grows knows = record {
   pointers = wrappers-grown c s old new true names.pointers grows knows.pointers;
   references = wrappers-grown c s old new false names.references grows knows.references;
   rings = own-grown c s old new names.rings grows knows.rings;
+  keys = keys-grown c s old new names.keys grows knows.keys;
 }
 
 -- So they do where those of rings are known anew.
-pub rings-known : {A E : Type 0} (r : Result A E) (c : CloneSource) (s : UnitSource) (texts : List (List ℕ)) (old new : TypeNames) → new.types ≡ old.types → new.pointers ≡ old.pointers → new.references ≡ old.references → KnowsNames c s texts old → OnOk r (AreOwnNames c s texts new.rings)
+pub rings-known : {A E : Type 0} (r : Result A E) (c : CloneSource) (s : UnitSource) (texts : List (List ℕ)) (old new : TypeNames) → new.types ≡ old.types → new.pointers ≡ old.pointers → new.references ≡ old.references → new.keys ≡ old.keys → KnowsNames c s texts old → OnOk r (AreOwnNames c s texts new.rings)
     → OnOk r (KnowsNames c s texts new)
-rings-known (Ok done) c s texts old new types pointers references knows rings = record {
+rings-known (Ok done) c s texts old new types pointers references keys knows rings = record {
   types = subst (KnowsTypes c s) (sym types) knows.types;
   pointers = subst (AreWrapperNames c s texts true) (sym pointers) knows.pointers;
   references = subst (AreWrapperNames c s texts false) (sym references) knows.references;
   rings = rings;
+  keys = subst (KnowsKeys c s texts) (sym keys) knows.keys;
 }
-rings-known (Err e) c s texts old new types pointers references knows rings = tt
+rings-known (Err e) c s texts old new types pointers references keys knows rings = tt
 
-pub pointers-known : {A E : Type 0} (r : Result A E) (c : CloneSource) (s : UnitSource) (texts : List (List ℕ)) (old new : TypeNames) → new.types ≡ old.types → new.references ≡ old.references → new.rings ≡ old.rings → KnowsNames c s texts old → OnOk r (AreWrapperNames c s texts true new.pointers)
+pub pointers-known : {A E : Type 0} (r : Result A E) (c : CloneSource) (s : UnitSource) (texts : List (List ℕ)) (old new : TypeNames) → new.types ≡ old.types → new.references ≡ old.references → new.rings ≡ old.rings → new.keys ≡ old.keys → KnowsNames c s texts old → OnOk r (AreWrapperNames c s texts true new.pointers)
     → OnOk r (KnowsNames c s texts new)
-pointers-known (Ok done) c s texts old new types references rings knows pointers = record {
+pointers-known (Ok done) c s texts old new types references rings keys knows pointers = record {
   types = subst (KnowsTypes c s) (sym types) knows.types;
   pointers = pointers;
   references = subst (AreWrapperNames c s texts false) (sym references) knows.references;
   rings = subst (AreOwnNames c s texts) (sym rings) knows.rings;
+  keys = subst (KnowsKeys c s texts) (sym keys) knows.keys;
 }
-pointers-known (Err e) c s texts old new types references rings knows pointers = tt
+pointers-known (Err e) c s texts old new types references rings keys knows pointers = tt
 
-pub references-known : {A E : Type 0} (r : Result A E) (c : CloneSource) (s : UnitSource) (texts : List (List ℕ)) (old new : TypeNames) → new.types ≡ old.types → new.pointers ≡ old.pointers → new.rings ≡ old.rings → KnowsNames c s texts old → OnOk r (AreWrapperNames c s texts false new.references)
+pub references-known : {A E : Type 0} (r : Result A E) (c : CloneSource) (s : UnitSource) (texts : List (List ℕ)) (old new : TypeNames) → new.types ≡ old.types → new.pointers ≡ old.pointers → new.rings ≡ old.rings → new.keys ≡ old.keys → KnowsNames c s texts old → OnOk r (AreWrapperNames c s texts false new.references)
     → OnOk r (KnowsNames c s texts new)
-references-known (Ok done) c s texts old new types pointers rings knows references = record {
+references-known (Ok done) c s texts old new types pointers rings keys knows references = record {
   types = subst (KnowsTypes c s) (sym types) knows.types;
   pointers = subst (AreWrapperNames c s texts true) (sym pointers) knows.pointers;
   references = references;
   rings = subst (AreOwnNames c s texts) (sym rings) knows.rings;
+  keys = subst (KnowsKeys c s texts) (sym keys) knows.keys;
 }
-references-known (Err e) c s texts old new types pointers rings knows references = tt
+references-known (Err e) c s texts old new types pointers rings keys knows references = tt
 
 -- ---- offsets
 

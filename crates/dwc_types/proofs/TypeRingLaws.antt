@@ -128,7 +128,7 @@ no-item [] left t is = absurd (cc)
 no-item (u ∷ front) left t is = absurd (cc)
 
 module _ (c : CloneSource) (number : ℕ) (s : UnitSource) (source : IsSource c number s) where
-  type-alike : (x w : Placed) → IsEmitted c s x → IsEmitted c s w → x.entry.offset ≡ w.entry.offset → type_of s.entries x ≡ type_of s.entries w
+  pub type-alike : (x w : Placed) → IsEmitted c s x → IsEmitted c s w → x.entry.offset ≡ w.entry.offset → type_of s.entries x ≡ type_of s.entries w
   type-alike x w here there same =
       let like = one-entry c number s x w source here there same in
       ap (target_in_unit s.entries x) (value-alike DW_AT_type x.entry w.entry like) ∙ by-unit s.entries x w (here.unit ∙ sym there.unit) (attribute DW_AT_type w.entry)

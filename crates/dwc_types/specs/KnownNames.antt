@@ -1,36 +1,27 @@
 -- The types that were read of a unit and the names of wrappers that were made, and what is known by them.
-use Rattle.std.specs.Prelude.{◌≡◌, ℕ, ◌==◌, ◌≤◌, ◌≢◌, ◌⊎◌, Bool, true, false, List, [], ◌∷◌, ◌++◌, slice_get, Option, Some, None, IfSome, Result, Ok, Err}
+use Rattle.std.specs.Prelude.{◌≡◌, ℕ, ◌==◌, ◌≤◌, ◌≢◌, Bool, true, false, List, [], ◌∷◌, ◌++◌, slice_get, Option, Some, None, IfSome, Result, Ok, Err}
 use Rattle.std.specs.Ordering.{nat_cmp}
 use Rattle.std.specs.BTreeMap.{BTreeMap, get}
 use Rattle.dwc_base.specs.declared.constants.TheConstants.{DW_AT_type, DW_TAG_const_type, DW_TAG_pointer_type}
 use Rattle.dwc_dwarf.specs.Entries.{attribute}
 use Rattle.dwc_rules.specs.Kept.{Placed}
 use Rattle.dwc_rules.specs.Clones.{UnitSource}
-use Rattle.dwc_rules.specs.TypeNames.{derived_name, name_of, type_name, unknown}
+use Rattle.dwc_rules.specs.TypeNames.{type_name}
 use Rattle.dwc_rules.specs.Wrappers.{wrapper_name}
 use Rattle.dwc_unit.specs.declared.strings.StringId.{StringId}
 use Rattle.dwc_source.specs.declared.error.CloneError.{CloneError}
 use Rattle.dwc_source.specs.declared.source.CloneSource.{CloneSource}
-use Rattle.dwc_types.specs.declared.type_entry.TypeEntry.{TypeEntry}
 use Rattle.dwc_types.specs.declared.type_name.DerivedType.{DerivedType}
 use Rattle.dwc_types.specs.declared.type_name.KnownTypes.{KnownTypes}
 use Rattle.dwc_types.specs.declared.type_name.NotedName.{NotedName}
 use Rattle.dwc_types.specs.declared.type_name.TypeNames.{TypeNames}
-use Rattle.dwc_types.specs.declared.type_name.TypeStep.TheVariants.{Derived}
 use Rattle.dwc_types.specs.DerivedTypes.{is_at, met_in}
 use Rattle.dwc_source.specs.KnownTexts.{IsNumbered}
-use Rattle.dwc_source.specs.Sources.{IsEmitted, IsSource}
+use Rattle.dwc_source.specs.Sources.{IsEmitted}
 use Rattle.dwc_types.specs.TypeChains.{GivesRead, offset_in_unit}
+use Rattle.dwc_types.specs.TypeReads.{EndsSo, IsRead}
 use Rattle.dwc_types.specs.TypeRings.{spelt_of}
-use Rattle.dwc_types.specs.TypeSteps.{GivesStep}
-
--- The type at an offset has no name, and is derived from another.
-abbrev pub IsRead : CloneSource → UnitSource → ℕ → ℕ → Option TypeEntry → Type 0
-IsRead c s offset tag next = (number : ℕ) (f : Placed) → IsSource c number s → IsEmitted c s f → f.entry.offset ≡ offset → GivesStep c s f (Ok (Derived tag next))
-
--- The type at an offset ends a chain with a name: its own, or that of what has none.
-abbrev pub EndsSo : CloneSource → UnitSource → ℕ → List ℕ → Type 0
-EndsSo c s offset name = (number : ℕ) (f : Placed) → IsSource c number s → IsEmitted c s f → f.entry.offset ≡ offset → (name_of s.texts f ≡ Ok (Some name)) ⊎ ((name_of s.texts f ≡ Ok None) × (derived_name f.entry.tag ≡ None) × (name ≡ unknown))
+use Rattle.dwc_types.specs.KeyedTypes.{KnowsKeys}
 
 -- A derived type is kept at a place.
 pub record IsKept (c : CloneSource) (s : UnitSource) (types : KnownTypes) (place : ℕ) (t : DerivedType) : Type 0 where
@@ -84,12 +75,13 @@ NamesRing c s texts ring id = (front left : List DerivedType) (t : DerivedType) 
 abbrev pub NamesRingFrom : CloneSource → UnitSource → List (List ℕ) → Bool → List DerivedType → StringId → Type 0
 NamesRingFrom c s texts pointer ring id = (front left : List DerivedType) (b t : DerivedType) → ring ≡ (front ++ b ∷ []) ++ t ∷ left → spelt_of (t ∷ (left ++ (front ++ b ∷ []))) ≡ spelt_of ring → NamesWrappers c s texts pointer t.offset b.offset id
 
--- So are those that are noted, of pointers and of references, and of entries in rings, in a table of texts; and the types are known.
+-- So are those that are noted, of pointers and of references, and of entries in rings, in a table of texts; and the types and their keys are known.
 pub record KnowsNames (c : CloneSource) (s : UnitSource) (texts : List (List ℕ)) (names : TypeNames) : Type 0 where
   pub types : KnowsTypes c s names.types
   pub pointers : AreWrapperNames c s texts true names.pointers
   pub references : AreWrapperNames c s texts false names.references
   pub rings : AreOwnNames c s texts names.rings
+  pub keys : KnowsKeys c s texts names.keys
 
 -- None is the one at an offset.
 abbrev pub IsAway : List DerivedType → ℕ → Type 0

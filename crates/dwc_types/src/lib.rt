@@ -2,6 +2,7 @@
 #![tactic(auto)]
 
 mod type_entry;
+mod type_key;
 mod type_name;
 mod type_ring;
 

@@ -15,7 +15,8 @@ ghost use Rattle.dwc_unit.specs.TextTables.{IsText};
 ghost use Rattle.dwc_source.specs.declared.source.CloneSource.{CloneSource};
 ghost use Rattle.dwc_source.specs.Sources.{placed_entry, IsEmitted, IsSource};
 ghost use Rattle.dwc_types.specs.DerivedTypes.{AddsUnmet, at_walk, end_of, is_at};
-ghost use Rattle.dwc_types.specs.KnownNames.{AreOwnNames, AreWrapperNames, EndsSo, GivesNumber, IfAway, IfEnds, IsAway, IsFresh, IsOwnName, IsRead, IsWrapperName, KnowsNames, KnowsTypes, NamesWrapper, NamesWrappers};
+ghost use Rattle.dwc_types.specs.KnownNames.{AreOwnNames, AreWrapperNames, GivesNumber, IfAway, IfEnds, IsAway, IsFresh, IsOwnName, IsWrapperName, KnowsNames, KnowsTypes, NamesWrapper, NamesWrappers};
+ghost use Rattle.dwc_types.specs.TypeReads.{EndsSo, IsRead};
 ghost use Rattle.dwc_source.specs.KnownTexts.{IsNumbered};
 ghost use Rattle.dwc_source.specs.MadeValues.{Grows};
 ghost use Rattle.dwc_types.specs.TypeChains.{GivesRead, behind, behind_name, in_front, named_chain};
@@ -24,6 +25,7 @@ ghost use Rattle.dwc_source.specs.declared.error.CloneError.TheVariants.{OutOfMe
 ghost use Rattle.dwc_types.specs.declared.type_name.DerivedType.{DerivedType};
 
 use crate::type_entry::{TypeEntry, type_of};
+use crate::type_key::{TypeKeys, key_of, no_keys, note_key, noted_by_key};
 use crate::type_ring::{
     goes_to, last_offset, least_turn, note_ring, note_ring_from, ring_at, spelt_tags,
 };
@@ -51,6 +53,7 @@ pub struct TypeNames {
     // those of entries that stand in a ring, by their own offsets
     rings: BTreeMap<u64, StringId>,
     types: KnownTypes,
+    keys: TypeKeys,
 }
 
 /// The number in the table of texts of the name of the wrappers of all that go to a type but the one at an offset.
@@ -69,7 +72,7 @@ pub(crate) struct KnownTypes {
     // the names of the others, by their offsets
     ends: BTreeMap<u64, Vec<u8>>,
     // how many chains were followed
-    walks: u64,
+    pub(crate) walks: u64,
 }
 
 /// A type without a name that is derived from another: its tag, that type, and where this may stand; and the number of the chain that it was
@@ -102,12 +105,13 @@ impl TypeNames {
             references: BTreeMap::new(alloc),
             rings: BTreeMap::new(alloc),
             types: no_types(alloc),
+            keys: no_keys(alloc),
         }
     }
 }
 
-// No types yet.
-fn no_types(alloc: Global) -> KnownTypes
+/// No types yet.
+pub(crate) fn no_types(alloc: Global) -> KnownTypes
     ensures texts { HaveTexts result }
     ensures types { (source : CloneSource) (s : UnitSource) → KnowsTypes source s result }
 {
@@ -334,8 +338,8 @@ fn read_type(
     }
 }
 
-// The place of the type at an offset, if it is derived from another; otherwise its name is kept. `near` is where it may stand.
-fn find_type(
+/// The place of the type at an offset, if it is derived from another; otherwise its name is kept. `near` is where it may stand.
+pub(crate) fn find_type(
     alloc: Global,
     source: &CloneSource<'_, '_>,
     offset: u64,
@@ -358,8 +362,8 @@ fn find_type(
     }
 }
 
-// Meets the derived type at a place on the chain of a number; None where it was met on it before.
-fn meet(types: &mut KnownTypes, place: usize, walk: u64) -> Option<DerivedType>
+/// Meets the derived type at a place on the chain of a number; None where it was met on it before.
+pub(crate) fn meet(types: &mut KnownTypes, place: usize, walk: u64) -> Option<DerivedType>
     requires inside { place < length types.old.derived.items }
     requires texts { HaveTexts types.old }
     ensures texts { HaveTexts types.new }
@@ -536,6 +540,7 @@ fn note(
     name: StringId,
 ) -> Result<(), AllocError>
     ensures types { names.new.types ≡ names.old.types }
+    ensures keys { names.new.keys ≡ names.old.keys }
     ensures names { (source : CloneSource) (s : UnitSource) (texts : List (List ℕ)) → NamesWrappers source s texts (tag == DW_TAG_pointer_type) offset but name → KnowsNames source s texts names.old → OnOk result (KnowsNames source s texts names.new) }
 {
     if tag == DW_TAG_pointer_type {
@@ -601,6 +606,7 @@ fn note_own_ring(
     names: &mut TypeNames,
 ) -> Result<(), AllocError>
     ensures types { names.new.types ≡ names.old.types }
+    ensures keys { names.new.keys ≡ names.old.keys }
     ensures names { (source : CloneSource) (number : ℕ) (s : UnitSource) (texts : List (List ℕ)) (e : Placed) → IsSource source number s → IsEmitted source s e → e.entry.offset ≡ own → e.entry.tag ≡ tag → IsWrapperName s texts e name → KnowsNames source s texts names.old → OnOk result (KnowsNames source s texts names.new) }
 {
     if tag == DW_TAG_const_type {
@@ -623,6 +629,7 @@ fn note_first_ring(
     names: &mut TypeNames,
 ) -> Result<(), AllocError>
     ensures types { names.new.types ≡ names.old.types }
+    ensures keys { names.new.keys ≡ names.old.keys }
     ensures names { (source : CloneSource) (s : UnitSource) (texts : List (List ℕ)) (e : Placed) (first : TypeEntry) → IsOfType source s e first → first.offset ≡ offset → e.entry.offset ≡ own → e.entry.tag ≡ tag → IsWrapperName s texts e name → KnowsNames source s texts names.old → OnOk result (KnowsNames source s texts names.new) }
 {
     let ring = ring_at(alloc, &names.types, offset)?;
@@ -649,6 +656,7 @@ fn note_for_type(
     names: &mut TypeNames,
 ) -> Result<(), AllocError>
     ensures types { names.new.types ≡ names.old.types }
+    ensures keys { names.new.keys ≡ names.old.keys }
     ensures names { (source : CloneSource) (s : UnitSource) (texts : List (List ℕ)) (e : Placed) (first : TypeEntry) → IsOfType source s e first → first.offset ≡ offset → e.entry.offset ≡ own → e.entry.tag ≡ tag → IsWrapperName s texts e name → NamesWrappers source s texts (tag == DW_TAG_pointer_type) offset but name → KnowsNames source s texts names.old → OnOk result (KnowsNames source s texts names.new) }
 {
     note(names, tag, offset, but, name)?;
@@ -670,6 +678,7 @@ fn note_made(
     names: &mut TypeNames,
 ) -> Result<(), AllocError>
     ensures types { names.new.types ≡ names.old.types }
+    ensures keys { names.new.keys ≡ names.old.keys }
     ensures names { (source : CloneSource) (s : UnitSource) (texts : List (List ℕ)) (e : Placed) (first : TypeEntry) → IsOfType source s e first → first.offset ≡ offset → e.entry.offset ≡ own → e.entry.tag ≡ tag → IsWrapperName s texts e name → IfSome but (λ but. NamesWrappers source s texts (tag == DW_TAG_pointer_type) offset but name) → KnowsNames source s texts names.old → OnOk result (KnowsNames source s texts names.new) }
 {
     match but {
@@ -689,6 +698,7 @@ fn make_name(
 ) -> Result<StringId, CloneError>
     requires texts { AreNames names.old }
     ensures texts { AreNames names.new }
+    ensures keys { names.new.keys ≡ names.old.keys }
     ensures grows { Grows strings.old strings.new }
     ensures names { (s : UnitSource) → IsOfType source.now s (placed_entry source.now (entry_view entry.now)) first → KnowsNames source.now s strings.old names.old → OnOk result (KnowsNames source.now s strings.new names.new) }
     ensures name { (s : UnitSource) → IsOfType source.now s (placed_entry source.now (entry_view entry.now)) first → KnowsNames source.now s strings.old names.old → GivesNumber s strings.new (placed_entry source.now (entry_view entry.now)) result }
@@ -704,6 +714,36 @@ fn make_name(
         name,
         names,
     )?;
+    Ok(name)
+}
+
+// Finds the name of the wrapper of an entry by the key of the first type of its chain, or makes it and notes it of that key.
+fn find_name(
+    alloc: Global,
+    source: &CloneSource<'_, '_>,
+    entry: &Entry<'_>,
+    first: TypeEntry,
+    names: &mut TypeNames,
+    strings: &mut StringTable,
+) -> Result<StringId, CloneError>
+    requires texts { AreNames names.old }
+    ensures texts { AreNames names.new }
+    ensures grows { Grows strings.old strings.new }
+    ensures names { (s : UnitSource) → IsOfType source.now s (placed_entry source.now (entry_view entry.now)) first → KnowsNames source.now s strings.old names.old → OnOk result (KnowsNames source.now s strings.new names.new) }
+    ensures name { (s : UnitSource) → IsOfType source.now s (placed_entry source.now (entry_view entry.now)) first → KnowsNames source.now s strings.old names.old → GivesNumber s strings.new (placed_entry source.now (entry_view entry.now)) result }
+{
+    let Some(key) = key_of(alloc, source, first, &mut names.types, &mut names.keys)? else {
+        return make_name(alloc, source, entry, first, names, strings);
+    };
+    if key.but == entry.offset {
+        return make_name(alloc, source, entry, first, names, strings);
+    }
+    if let Some(name) = noted_by_key(&names.keys, entry.tag, &key) {
+        note(names, entry.tag, first.offset, key.but, name)?;
+        return Ok(name);
+    }
+    let name = make_name(alloc, source, entry, first, names, strings)?;
+    note_key(&mut names.keys, entry.tag, &key, name)?;
     Ok(name)
 }
 
@@ -731,7 +771,7 @@ pub fn name_of_wrapper(
     };
     match noted(names, entry.tag, entry.offset, first.offset) {
         Some(name) => Ok(name),
-        None => make_name(alloc, source, entry, first, names, strings),
+        None => find_name(alloc, source, entry, first, names, strings),
     }
 }
 

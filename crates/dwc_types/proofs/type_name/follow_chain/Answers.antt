@@ -6,7 +6,8 @@ use Rattle.dwc_rules.specs.Clones.{UnitSource}
 use Rattle.dwc_rules.specs.TypeNames.{type_name, unknown}
 use Rattle.dwc_types.specs.declared.type_name.ChainName.{ChainName}
 use Rattle.dwc_types.specs.DerivedTypes.{end_of, is_at, is_found, met_in, room}
-use Rattle.dwc_types.specs.KnownNames.{EndsSo, IfAway, IfEnds, IsAway, IsRead, KnowsTypes}
+use Rattle.dwc_types.specs.KnownNames.{IfAway, IfEnds, IsAway, KnowsTypes}
+use Rattle.dwc_types.specs.TypeReads.{EndsSo, IsRead}
 use Rattle.dwc_types.specs.TypeChains.{named_chain}
 use Rattle.dwc_types.proofs.ChainWalkLaws.{IsAlong, along-more, along-same, along-start, IsBegun, IsOther, begun-same, end-named, first-met, last-named, met-named, other-end, other-last, other-met, other-more, other-same, own-named, refused-named}
 use Rattle.dwc_types.proofs.DerivedTypeLaws.{met-at, met-changed, room-changed, stands-at, unmet-away}

@@ -35,7 +35,7 @@ returns-clause-names c s of known =
     let numbered = subst (λ name. IsNumbered new (wrapper_name tag name) id) c.deref.ensures.value c.in_ok-name.ensures.number in
     let own : IsWrapperName s new p id = record { name = made.name.items; read = c.in_ok-made.ensures.name s p of refl known.types; number = numbered } in
     let named = names-wrappers src of.number s (entry_view c.args.entry.now) c.args.first of.source of.type_is made.but made.name.items new tag id (λ f same. c.in_ok-made.ensures.others s f same known.types) numbered in
-    let grown = names-grown src s old new _ c.add_name.ensures.grows (record { types = c.in_ok-made.ensures.types s known.types; pointers = known.pointers; references = known.references; rings = known.rings }) in
+    let grown = names-grown src s old new _ c.add_name.ensures.grows (record { types = c.in_ok-made.ensures.types s known.types; pointers = known.pointers; references = known.references; rings = known.rings; keys = known.keys }) in
     c.in_ok-note_made.ensures.names src s new p c.args.first of refl refl refl own named grown
 
 pub returns-clause-name : goal.returns-clause-name

@@ -21,4 +21,4 @@ returns-in_default-clause-name c number s source emitted known =
 pub returns-in-None-clause-names : goal.returns-in-None-clause-names
 returns-in-None-clause-names c number s source emitted known =
     let type_is = sym c.type_of.ensures ∙ ap (option_map type_view) c.in-Some.is in
-    c.make_name.ensures.names s (record { number = number; source = source; emitted = emitted; type_is = type_is }) known
+    c.find_name.ensures.names s (record { number = number; source = source; emitted = emitted; type_is = type_is }) known

@@ -1,7 +1,7 @@
 use Rattle.std.proofs.Common.{◌∙◌, Ok, ap, sym, subst}
 use Rattle.std.proofs.lemmas.Result.{err_from_is_err_and}
 use Rattle.std.specs.Option.{option_copied}
-use Rattle.dwc_types.specs.KnownNames.{EndsSo}
+use Rattle.dwc_types.specs.TypeReads.{EndsSo}
 use Rattle.dwc_types.specs.TypeSteps.{ReadsStep}
 use Rattle.dwc_types.proofs.KnownTypeLaws.{ends-kept, ends-last, ends-named}
 use Rattle.dwc_types.proofs.type_name.read_type.Goals as goal
