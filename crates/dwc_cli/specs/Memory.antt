@@ -73,10 +73,10 @@ GivesFront (Some rest) old None buffer (Some n) = ⊥
 GivesFront (Some rest) old (Some now) buffer (Some n) = (n ≡ min (length buffer) (length rest)) × (take n buffer ≡ take n rest) × (now ≡ drop n rest)
 
 abbrev pub after_giving : MemorySource → ℕ → Option (List ℕ) → MemorySource
-after_giving s room None = record s { calls = one_more s.calls; faults = one_more s.faults; asked = passing 0 false ∷ s.asked }
+after_giving s room None = record s { calls = one_more s.calls; faults = one_more s.faults; asked = passing room [] false ∷ s.asked }
 after_giving s room (Some rest) =
     let count = min room (length rest) in
-    record s { left = Some (drop count rest); taken = more s.taken count; longest = max s.longest (more s.taken count); calls = one_more s.calls; asked = passing count true ∷ s.asked }
+    record s { left = Some (drop count rest); taken = more s.taken count; longest = max s.longest (more s.taken count); calls = one_more s.calls; asked = passing room (take count rest) true ∷ s.asked }
 
 -- a read into a buffer with so much room gives as many bytes as are left and fit it
 abbrev pub after_read : MemorySource → ℕ → MemorySource
@@ -104,10 +104,10 @@ after_plain_open s path = record s { left = plain_bytes s path; taken = 0; fault
 
 -- a read into a buffer with so much room, of what is left
 abbrev pub after_plain_giving : PlainFiles → ℕ → Option (List ℕ) → PlainFiles
-after_plain_giving s room None = record s { faults = one_more s.faults; asked = passing 0 false ∷ s.asked }
+after_plain_giving s room None = record s { faults = one_more s.faults; asked = passing room [] false ∷ s.asked }
 after_plain_giving s room (Some rest) =
     let count = min room (length rest) in
-    record s { left = Some (drop count rest); taken = more s.taken count; longest = max s.longest (more s.taken count); asked = passing count true ∷ s.asked }
+    record s { left = Some (drop count rest); taken = more s.taken count; longest = max s.longest (more s.taken count); asked = passing room (take count rest) true ∷ s.asked }
 
 abbrev pub after_plain_read : PlainFiles → ℕ → PlainFiles
 after_plain_read s room = after_plain_giving s room s.left
@@ -134,10 +134,10 @@ after_long_open s path = record s { zeros = Some s.file_length; taken = 0; asked
 
 -- a read into a buffer with so much room, where so many zeros are left
 abbrev pub after_long_giving : LongFiles → ℕ → Option ℕ → LongFiles
-after_long_giving s room None = record s { faults = one_more s.faults; asked = passing 0 false ∷ s.asked }
+after_long_giving s room None = record s { faults = one_more s.faults; asked = passing room [] false ∷ s.asked }
 after_long_giving s room (Some zeros) =
     let count = min room zeros in
-    record s { zeros = Some (zeros - count); taken = more s.taken count; longest = max s.longest (more s.taken count); asked = passing count true ∷ s.asked }
+    record s { zeros = Some (zeros - count); taken = more s.taken count; longest = max s.longest (more s.taken count); asked = passing room (replicate count 0) true ∷ s.asked }
 
 abbrev pub after_long_read : LongFiles → ℕ → LongFiles
 after_long_read s room = after_long_giving s room s.zeros
@@ -168,8 +168,8 @@ takes s piece =
     else (if nat_lt 0 (length piece) && (fitting s piece == 0) then None else Some (fitting s piece))
 
 abbrev pub after_taking : MemorySink → List ℕ → Option ℕ → MemorySink
-after_taking s piece None = record s { calls = one_more s.calls; faults = one_more s.faults; asked = passing 0 false ∷ s.asked }
-after_taking s piece (Some n) = record s { written = s.written ++ take n piece; calls = one_more s.calls; asked = passing n true ∷ s.asked }
+after_taking s piece None = record s { calls = one_more s.calls; faults = one_more s.faults; asked = passing (length piece) [] false ∷ s.asked }
+after_taking s piece (Some n) = record s { written = s.written ++ take n piece; calls = one_more s.calls; asked = passing (length piece) (take n piece) true ∷ s.asked }
 
 abbrev pub after_write : MemorySink → List ℕ → MemorySink
 after_write s piece = after_taking s piece (takes s piece)

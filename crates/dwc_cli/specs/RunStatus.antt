@@ -18,6 +18,7 @@ use Rattle.dwc_dwarf.specs.TreeLaws.{have_short_expressions}
 use Rattle.dwc_write.specs.SpelledOutput.{AreSpelled}
 use Rattle.dwc_section.specs.Writers.{IsSound}
 use Rattle.dwc_map.specs.MapFile.{map_of_bytes}
+use Rattle.dwc_cli.specs.Calls.{Call, files_read, openings}
 use Rattle.dwc_cli.specs.Inputs.{Paths, paths_of, all_paths, Input, all_files, wasm_modules, defined_counts, Loaded, loaded, compilation_of, shared_in, bad_map}
 use Rattle.dwc_cli.specs.Printed.{printed, is_plain}
 
@@ -36,6 +37,15 @@ pub record Names (files : Option Files) (words : List (List ℕ)) (input : Input
   pub paths : Paths
   pub are_paths : paths_of words ≡ Some paths
   pub bytes : AllZip (λ path bytes. map.get told path ≡ Some bytes) (all_paths paths) (all_files input)
+
+-- The files that the words name were opened, each once and in order, and read to their ends. These are the bytes that were read, whatever the
+-- source tells of its files.
+pub record Reads (words : List (List ℕ)) (before now : List Call) (input : Input) : Type 0 where
+  pub paths : Paths
+  pub are_paths : paths_of words ≡ Some paths
+  pub opened : openings now ≡ openings before ++ all_paths paths
+  pub bytes : files_read now ≡ files_read before ++ all_files input
+  pub all : length (all_files input) ≡ length (all_paths paths)
 
 -- What was taken grew by these bytes, where the sink tells it.
 abbrev pub Appended : Option (List ℕ) → Option (List ℕ) → List ℕ → Type 0
@@ -210,13 +220,37 @@ pub record IsValid (read : Loaded) : Type 0 where
   pub small : (name : SectionName) → widest name (compilation_of read) < 2 ^ 31
   pub short : have_short_expressions (trees_made (compilation_of read)) ≡ true
 
--- the files are read to their ends, and nothing failed: the counts of faults did not rise
-pub record RunsWell (files : Option Files) (words : List (List ℕ)) (read_before read_now write_before write_now : ℕ) : Type 0 where
-  pub input : Input
-  pub named : Names files words input
+-- an input is valid and not too long, and nothing failed: the counts of faults did not rise
+pub record IsWell (input : Input) (read_before read_now write_before write_now : ℕ) : Type 0 where
   pub read : Loaded
   pub is_read : loaded input ≡ Some read
   pub short : All (λ bytes. length bytes ≤ most_bytes) (all_files input)
   pub reads : Rose read_before read_now → ⊥
   pub writes : Rose write_before write_now → ⊥
   pub valid : IsValid read
+
+-- the files that the words name are such, and nothing failed
+pub record RunsWell (files : Option Files) (words : List (List ℕ)) (read_before read_now write_before write_now : ℕ) : Type 0 where
+  pub input : Input
+  pub named : Names files words input
+  pub well : IsWell input read_before read_now write_before write_now
+
+-- What is said of the input that was read: the printed sections carry it, or its causes.
+pub record SaysOfInput (input : Input) (status : ℕ) (before now : Option (List ℕ)) (read_before read_now write_before write_now : ℕ) : Type 0 where
+  pub carried : status ≡ 0 → Carries input before now
+  pub front : status ≡ 8 → FrontCarries input before now
+  pub causes : NamedCauses input status
+  pub complete : IsWell input read_before read_now write_before write_now → IsOneOf (0 ∷ 9 ∷ []) status
+
+-- the statuses of a run that ends before its files are read, and of want of memory
+abbrev pub early_statuses : List ℕ
+early_statuses = 2 ∷ 3 ∷ 4 ∷ 9 ∷ []
+
+-- with any other status all files that the words name were read to their ends
+abbrev pub ReadsAll : List (List ℕ) → ℕ → List Call → List Call → Type 0
+ReadsAll words status before now = (IsOneOf early_statuses status → ⊥) → (input : Input) × Reads words before now input
+
+-- what is said of whatever input was read
+abbrev pub SaysOfRead : List (List ℕ) → ℕ → List Call → List Call → Option (List ℕ) → Option (List ℕ) → ℕ → ℕ → ℕ → ℕ → Type 0
+SaysOfRead words status asked_before asked_now before now read_before read_now write_before write_now =
+    (input : Input) → Reads words asked_before asked_now input → SaysOfInput input status before now read_before read_now write_before write_now

@@ -38,23 +38,23 @@ impl Asked {
         }
     }
 
-    // A read or a write passed so many bytes.
+    // A read or a write passed some bytes, with a buffer of so many.
     #[inline]
-    pub(crate) fn note_passing(&mut self, count: usize)
-        ensures { self.new.calls ≡ passing count true ∷ self.old.calls }
+    pub(crate) fn note_passing(&mut self, room: usize, bytes: &[u8])
+        ensures { self.new.calls ≡ passing room bytes.now true ∷ self.old.calls }
     {
-        self.note(&[2, count as u64], &[]);
+        self.note(&[2, room as u64], bytes);
     }
 
-    // A read or a write failed.
+    // A read or a write failed, with a buffer of so many bytes.
     #[inline]
-    pub(crate) fn note_failing(&mut self)
-        ensures { self.new.calls ≡ passing 0 false ∷ self.old.calls }
+    pub(crate) fn note_failing(&mut self, room: usize)
+        ensures { self.new.calls ≡ passing room [] false ∷ self.old.calls }
     {
-        self.note(&[3], &[]);
+        self.note(&[3, room as u64], &[]);
     }
 
-    // A call, by the numbers of its kind.
+    // A call, by the numbers of its kind and of its buffer's length.
     fn note(&mut self, _numbers: &[u64], _bytes: &[u8])
         ensures { self.new.calls ≡ call_of _numbers.now _bytes.now ∷ self.old.calls }
     {}

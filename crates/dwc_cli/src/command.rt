@@ -2,7 +2,7 @@
 ghost use Rattle.std.specs.Prelude.{◌≡◌, ◌≢◌, ◌<◌, ◌≤◌, ◌↔◌, ◌∷◌, [], map, string_bytes};
 ghost use Rattle.dwc_cli.specs.Calls.{ReadsFront, WritesUntilFailure};
 ghost use Rattle.dwc_cli.specs.Inputs.{named_paths};
-ghost use Rattle.dwc_cli.specs.RunStatus.{Rose, Succeeds, UsageCause, MissingCause, InputCauses, PrefixWritten, IsStatus, IsOneOf, RunsWell, most_bytes};
+ghost use Rattle.dwc_cli.specs.RunStatus.{Rose, Succeeds, UsageCause, MissingCause, InputCauses, PrefixWritten, IsStatus, IsOneOf, ReadsAll, RunsWell, SaysOfRead, most_bytes};
 ghost use Rattle.dwc_cli.specs.Failures.{failure_status, failure_message, IsOnOneLine};
 ghost use Rattle.dwc_cli.specs.Answers.{Tells, Complains};
 
@@ -49,6 +49,10 @@ pub fn run<S: Source, K: Sink, E: Sink>(
     // The files that the words name are opened, each once and in order, and read to their ends at most. A call that fails is the last one.
     ensures opened { ReadsFront result (named_paths (map string_bytes words.now)) (S.faults source.old) (S.faults source.new) (S.asked source.old) (S.asked source.new) }
     ensures ends { WritesUntilFailure result (K.faults out.old) (K.faults out.new) (K.asked out.old) (K.asked out.new) }
+
+    // Whatever the source tells of its files, the same holds of the bytes that were read: of each file all up to a read that gave none.
+    ensures all_read { ReadsAll (map string_bytes words.now) result (S.asked source.old) (S.asked source.new) }
+    ensures of_read { SaysOfRead (map string_bytes words.now) result (S.asked source.old) (S.asked source.new) (K.written out.old) (K.written out.new) (S.faults source.old) (S.faults source.new) (K.faults out.old) (K.faults out.new) }
 
     // What is written besides.
     ensures silent { result ≢ 0 → result ≢ 8 → K.written out.new ≡ K.written out.old }

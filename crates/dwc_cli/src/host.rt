@@ -1,10 +1,10 @@
-//! The real files and streams: the trusted edge. The system tells nothing of content, so as a source and a sink they tell none
-//! either. What they claim is their counts, and that they pass on what a file gives and what a stream takes.
-ghost use Rattle.std.specs.Prelude.{◌≡◌, ◌↔◌, [], ◌∷◌, None, Option, IsNone, IsErr, OnErr, IfOk};
+//! The real files and streams: the trusted edge. The system tells nothing of what a file holds, so as a source they tell none either. What
+//! they claim is what was asked of them, with the bytes that a file gave and a stream took by the system's answers, and their counts.
+ghost use Rattle.std.specs.Prelude.{◌≡◌, ◌↔◌, [], ◌∷◌, None, Some, Option, IsNone, IsErr, OnErr, IfOk};
 ghost use Rattle.std.specs.Option.{option_and_then};
 ghost use Rattle.std.specs.Io.{ReadsAtMost};
 ghost use Rattle.std.specs.Io.KnownBytes.{ReadConsumes, WriteAppends};
-ghost use Rattle.dwc_cli.specs.Calls.{opening_of, passing_of};
+ghost use Rattle.dwc_cli.specs.Calls.{opening_of, passed, passing_of};
 ghost use Rattle.dwc_cli.specs.Devices.{HasCause, Counts, Takes, TakesMost, Opens, Accepts, FailsWhileShut};
 ghost use Rattle.dwc_cli.specs.RunStatus.{Files};
 
@@ -90,7 +90,7 @@ impl<R: Files + Drop> Source for HostSource<R> {
         ensures taken { Takes self.old.taken self.new.taken result }
         ensures longest { TakesMost self.old.longest self.new.longest self.new.taken result }
         ensures cause { HasCause self.old.faults self.new.faults result }
-        ensures asked { self.new.asked.calls ≡ passing_of result ∷ self.old.asked.calls }
+        ensures asked { self.new.asked.calls ≡ passing_of result buf.new ∷ self.old.asked.calls }
         ensures counts { Counts self.old.faults self.new.faults result }
         ensures no_file { IsNone self.old.file → IsErr result }
         ensures open { IsNone self.new.file ↔ IsNone self.old.file }
@@ -99,12 +99,12 @@ impl<R: Files + Drop> Source for HostSource<R> {
         match read_from(&mut self.file, buf) {
             Ok(count) => {
                 count_taken(&mut self.taken, &mut self.longest, count);
-                self.asked.note_passing(count);
+                self.asked.note_passing(buf.len(), &buf[..count]);
                 Ok(count)
             }
             Err(failed) => {
                 self.faults = self.faults.saturating_add(1);
-                self.asked.note_failing();
+                self.asked.note_failing(buf.len());
                 Err(failed)
             }
         }
@@ -149,27 +149,27 @@ impl<W: Write + Drop> HostSink<W> {
 }
 
 impl<W: Write + Drop> Sink for HostSink<W> {
-    ghost written = { λ _. None };
+    ghost written = { λ s. Some (passed s.asked.calls) };
 
     ghost faults = { λ s. s.faults };
 
     ghost asked = { λ s. s.asked.calls };
 
     fn write(&mut self, bytes: &[u8]) -> Result<usize, Failed>
-        ensures bytes { Accepts None None bytes.now result }
+        ensures bytes { Accepts (Some (passed self.old.asked.calls)) (Some (passed self.new.asked.calls)) bytes.now result }
         ensures taken { WriteAppends (W.contents self.old.stream) (W.contents self.new.stream) result bytes.now }
         ensures cause { HasCause self.old.faults self.new.faults result }
-        ensures asked { self.new.asked.calls ≡ passing_of result ∷ self.old.asked.calls }
+        ensures asked { self.new.asked.calls ≡ passing_of result bytes.now ∷ self.old.asked.calls }
         ensures counts { Counts self.old.faults self.new.faults result }
     {
         match self.stream.write(bytes) {
             Ok(count) if count > 0 || bytes.is_empty() => {
-                self.asked.note_passing(count);
+                self.asked.note_passing(bytes.len(), &bytes[..count]);
                 Ok(count)
             }
             _ => {
                 self.faults = self.faults.saturating_add(1);
-                self.asked.note_failing();
+                self.asked.note_failing(bytes.len());
                 Err(Failed)
             }
         }

@@ -1,6 +1,6 @@
 //! Reading a whole file.
-ghost use Rattle.std.specs.Prelude.{◌≡◌, ◌<◌, ◌≤◌, ◌↔◌, [], ◌∷◌, max, length, Some, Err, IfOk};
-ghost use Rattle.dwc_cli.specs.Calls.{last_opened, ReadsPaths};
+ghost use Rattle.std.specs.Prelude.{◌≡◌, ◌<◌, ◌≤◌, ◌↔◌, ◌++◌, [], ◌∷◌, max, length, Some, Err, IfOk};
+ghost use Rattle.dwc_cli.specs.Calls.{files_read, last_opened, ReadsPaths};
 ghost use Rattle.dwc_cli.specs.RunStatus.{Rose, most_bytes};
 ghost use Rattle.dwc_cli.specs.Edge.{IsFile, IsLongFile, load_status};
 
@@ -60,6 +60,8 @@ pub(crate) fn load<S: Source>(
     ensures read_fault { result ≡ Err LoadError.Read → Rose (S.faults source.old) (S.faults source.new) }
     ensures asked { ReadsPaths (load_status result) (path.now ∷ []) (S.faults source.old) (S.faults source.new) (S.asked source.old) (S.asked source.new) }
     ensures last { last_opened (S.asked source.new) ≡ Some path.now }
+    ensures whole { IfOk result (λ bytes. files_read (S.asked source.new) ≡ files_read (S.asked source.old) ++ bytes.items ∷ []) }
+    ensures cut { result ≡ Err LoadError.TooLong → files_read (S.asked source.new) ≡ files_read (S.asked source.old) }
     ensures files { S.files source.new ≡ S.files source.old }
     ensures later { S.faults source.old ≤ S.faults source.new }
 {

@@ -80,7 +80,7 @@ impl Sink for MemSink {
     fn write(&mut self, bytes: &[u8]) -> Result<usize, Failed>
         ensures bytes { Accepts (Some self.old.written) (Some self.new.written) bytes.now result }
         ensures cause { HasCause self.old.faults self.new.faults result }
-        ensures asked { self.new.asked ≡ passing_of result ∷ self.old.asked }
+        ensures asked { self.new.asked ≡ passing_of result bytes.now ∷ self.old.asked }
         ensures value { self.new ≡ after_write self.old bytes.now }
         ensures takes { result_ok result ≡ takes self.old bytes.now }
     {
@@ -88,11 +88,11 @@ impl Sink for MemSink {
         let count = bytes.len().min(self.most).min(self.room - self.taken.len());
         if fails || (!bytes.is_empty() && count == 0) {
             self.faults = self.faults.saturating_add(1);
-            self.asked.note_failing();
+            self.asked.note_failing(bytes.len());
             return Err(Failed);
         }
         self.taken.extend_from_slice(&bytes[..count]).unwrap();
-        self.asked.note_passing(count);
+        self.asked.note_passing(bytes.len(), &bytes[..count]);
         Ok(count)
     }
 }

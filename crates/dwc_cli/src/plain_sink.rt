@@ -35,10 +35,10 @@ impl Sink for PlainSink {
     fn write(&mut self, bytes: &[u8]) -> Result<usize, Failed>
         ensures bytes { Accepts None None bytes.now result }
         ensures cause { HasCause 0 0 result }
-        ensures asked { self.new.asked.calls ≡ passing_of result ∷ self.old.asked.calls }
+        ensures asked { self.new.asked.calls ≡ passing_of result bytes.now ∷ self.old.asked.calls }
         ensures whole { result ≡ Ok (length bytes.now) }
     {
-        self.asked.note_passing(bytes.len());
+        self.asked.note_passing(bytes.len(), bytes);
         Ok(bytes.len())
     }
 }

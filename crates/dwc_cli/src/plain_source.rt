@@ -99,17 +99,17 @@ impl Source for PlainSource {
         ensures taken { Takes self.old.taken self.new.taken result }
         ensures longest { TakesMost self.old.longest self.new.longest self.new.taken result }
         ensures cause { HasCause self.old.faults self.new.faults result }
-        ensures asked { self.new.asked ≡ passing_of result ∷ self.old.asked }
+        ensures asked { self.new.asked ≡ passing_of result buf.new ∷ self.old.asked }
         ensures value { self.new ≡ after_plain_read self.old (length buf.old) }
         ensures reads { IsOk result ↔ IsSome self.old.left }
     {
         let Some(count) = give(&self.files, &mut self.opened, buf) else {
             self.faults = self.faults.saturating_add(1);
-            self.asked.note_failing();
+            self.asked.note_failing(buf.len());
             return Err(Failed);
         };
         count_taken(&mut self.taken, &mut self.longest, count);
-        self.asked.note_passing(count);
+        self.asked.note_passing(buf.len(), &buf[..count]);
         Ok(count)
     }
 }

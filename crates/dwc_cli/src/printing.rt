@@ -331,14 +331,14 @@ impl Sink for KeptText {
     fn write(&mut self, bytes: &[u8]) -> Result<usize, Failed>
         ensures bytes { Accepts (Some self.old.text.items) (Some self.new.text.items) bytes.now result }
         ensures cause { HasCause self.old.faults self.new.faults result }
-        ensures asked { self.new.asked.calls ≡ passing_of result ∷ self.old.asked.calls }
+        ensures asked { self.new.asked.calls ≡ passing_of result bytes.now ∷ self.old.asked.calls }
     {
         if self.text.extend_from_slice(bytes).is_err() {
             self.faults = self.faults.saturating_add(1);
-            self.asked.note_failing();
+            self.asked.note_failing(bytes.len());
             return Err(Failed);
         }
-        self.asked.note_passing(bytes.len());
+        self.asked.note_passing(bytes.len(), bytes);
         Ok(bytes.len())
     }
 }

@@ -1,9 +1,9 @@
 //! Reading the files that the words of a run name.
-ghost use Rattle.std.specs.Prelude.{ℕ, List, [], ◌∷◌, ◌≡◌, ◌≤◌, ◌<◌, ◌↔◌, map, option_map, string_bytes, Some, IfOk, IfErr, IfSome, Any};
+ghost use Rattle.std.specs.Prelude.{ℕ, List, [], ◌∷◌, ◌≡◌, ◌≤◌, ◌<◌, ◌↔◌, ◌++◌, length, map, option_map, string_bytes, Some, IfOk, IfErr, IfSome, Any};
 ghost use Rattle.std.specs.List.{AllZip};
-ghost use Rattle.dwc_cli.specs.Calls.{last_opened, ReadsPaths, ReadsFront};
+ghost use Rattle.dwc_cli.specs.Calls.{files_read, last_opened, openings, ReadsFewer, ReadsPaths, ReadsFront};
 ghost use Rattle.dwc_cli.specs.RunStatus.{Rose, most_bytes};
-ghost use Rattle.dwc_cli.specs.Inputs.{Input, all_paths};
+ghost use Rattle.dwc_cli.specs.Inputs.{Input, all_files, all_paths};
 ghost use Rattle.dwc_cli.specs.Edge.{IsReadFile, IsLongFile, paths_view};
 ghost use Rattle.dwc_map.specs.MapFile.{map_in_bytes, IsMap};
 ghost use Rattle.dwc_map.specs.MapViews.{map_file_view};
@@ -24,7 +24,7 @@ pub(crate) fn read_input<'w, S: Source>(
     source: &mut S,
     paths: &Paths<'w>,
 ) -> Result<InputFiles, Failure<'w>>
-    ensures input { IfOk result (λ read. (input : Input) × IsInputOf read input × IsInput (S.files source.old) (paths_view paths.now) input) }
+    ensures input { IfOk result (λ read. (input : Input) × IsInputOf read input × IsInput (S.files source.old) (paths_view paths.now) input × (files_read (S.asked source.new) ≡ files_read (S.asked source.old) ++ all_files input)) }
     ensures kinds { IfOk result (λ read. IfSome read.map_file (λ f. IsMap (map_file_view f))) }
     ensures too_long { (status_of result ≡ 4) ↔ (most_bytes < S.taken source.new) }
     ensures longest { S.longest source.old ≤ most_bytes → ((status_of result ≡ 4) ↔ (most_bytes < S.longest source.new)) }
@@ -36,6 +36,8 @@ pub(crate) fn read_input<'w, S: Source>(
     ensures asked { ReadsFront (status_of result) (all_paths (paths_view paths.now)) (S.faults source.old) (S.faults source.new) (S.asked source.old) (S.asked source.new) }
     ensures fault_named { status_of result ≡ 3 → option_map fault_message (last_opened (S.asked source.new)) ≡ Some (message_of result) }
     ensures length_named { status_of result ≡ 4 → option_map length_message (last_opened (S.asked source.new)) ≡ Some (message_of result) }
+    ensures all_opened { IfOk result (λ _. openings (S.asked source.new) ≡ openings (S.asked source.old) ++ all_paths (paths_view paths.now)) }
+    ensures cut { status_of result ≡ 4 → ReadsFewer (length (all_paths (paths_view paths.now))) (S.asked source.old) (S.asked source.new) }
     ensures later { S.faults source.old ≤ S.faults source.new }
 {
     let map_file = read_map(alloc, source, paths.map_path)?;
@@ -49,7 +51,7 @@ fn read_map<'w, S: Source>(
     source: &mut S,
     path: &'w str,
 ) -> Result<Option<MapFile>, Failure<'w>>
-    ensures file { IfOk result (λ read. (bytes : List ℕ) × IsReadFile (S.files source.old) path.now bytes × (option_map map_file_view read ≡ map_in_bytes bytes)) }
+    ensures file { IfOk result (λ read. (bytes : List ℕ) × IsReadFile (S.files source.old) path.now bytes × (option_map map_file_view read ≡ map_in_bytes bytes) × (files_read (S.asked source.new) ≡ files_read (S.asked source.old) ++ bytes ∷ [])) }
     ensures kinds { IfOk result (λ read. IfSome read (λ f. IsMap (map_file_view f))) }
     ensures too_long { (status_of result ≡ 4) ↔ (most_bytes < S.taken source.new) }
     ensures longest { S.longest source.old ≤ most_bytes → ((status_of result ≡ 4) ↔ (most_bytes < S.longest source.new)) }
@@ -61,6 +63,7 @@ fn read_map<'w, S: Source>(
     ensures asked { ReadsPaths (status_of result) (path.now ∷ []) (S.faults source.old) (S.faults source.new) (S.asked source.old) (S.asked source.new) }
     ensures last { last_opened (S.asked source.new) ≡ Some path.now }
     ensures files { S.files source.new ≡ S.files source.old }
+    ensures cut { status_of result ≡ 4 → files_read (S.asked source.new) ≡ files_read (S.asked source.old) }
     ensures later { S.faults source.old ≤ S.faults source.new }
 {
     let bytes = read_file(alloc, source, path)?;
@@ -93,6 +96,9 @@ fn read_files<'w, S: Source>(
     ensures asked { ReadsFront (status_of result) (map string_bytes paths.now) (S.faults source.old) (S.faults source.new) (S.asked source.old) (S.asked source.new) }
     ensures fault_named { status_of result ≡ 3 → option_map fault_message (last_opened (S.asked source.new)) ≡ Some (message_of result) }
     ensures length_named { status_of result ≡ 4 → option_map length_message (last_opened (S.asked source.new)) ≡ Some (message_of result) }
+    ensures whole { IfOk result (λ files. files_read (S.asked source.new) ≡ files_read (S.asked source.old) ++ map (λ m. m.items) files.items) }
+    ensures all_opened { IfOk result (λ _. openings (S.asked source.new) ≡ openings (S.asked source.old) ++ map string_bytes paths.now) }
+    ensures cut { status_of result ≡ 4 → ReadsFewer (length (map string_bytes paths.now)) (S.asked source.old) (S.asked source.new) }
     ensures later { S.faults source.old ≤ S.faults source.new }
 {
     let mut files = Vec::with_capacity(alloc, paths.len())?;
@@ -119,6 +125,8 @@ fn read_file<'w, S: Source>(
     ensures asked { ReadsPaths (status_of result) (path.now ∷ []) (S.faults source.old) (S.faults source.new) (S.asked source.old) (S.asked source.new) }
     ensures last { last_opened (S.asked source.new) ≡ Some path.now }
     ensures files { S.files source.new ≡ S.files source.old }
+    ensures whole { IfOk result (λ bytes. files_read (S.asked source.new) ≡ files_read (S.asked source.old) ++ bytes.items ∷ []) }
+    ensures cut { status_of result ≡ 4 → files_read (S.asked source.new) ≡ files_read (S.asked source.old) }
     ensures later { S.faults source.old ≤ S.faults source.new }
 {
     match load(alloc, source, path) {

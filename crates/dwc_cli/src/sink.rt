@@ -23,7 +23,7 @@ pub trait Sink {
     fn write(&mut self, bytes: &[u8]) -> Result<usize, Failed>
         ensures bytes { Accepts (written self.old) (written self.new) bytes.now result }
         ensures cause { HasCause (faults self.old) (faults self.new) result }
-        ensures asked { asked self.new ≡ passing_of result ∷ asked self.old };
+        ensures asked { asked self.new ≡ passing_of result bytes.now ∷ asked self.old };
 }
 
 /// Writes all of some bytes. Where the sink fails, a front of them was taken.

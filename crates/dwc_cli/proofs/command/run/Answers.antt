@@ -2,14 +2,14 @@ use Rattle.std.proofs.Common.{[], ◌∷◌, map, string_bytes, refl, sym, ◌�
 use Rattle.dwc_base.specs.Outputs.{section_view}
 use Rattle.dwc_cli.specs.Edge.{paths_view}
 use Rattle.dwc_cli.specs.Inputs.{all_paths, named_paths}
-use Rattle.dwc_cli.specs.RunStatus.{InputCauses, run_statuses, IsStatus, IsOneOf}
+use Rattle.dwc_cli.specs.RunStatus.{InputCauses, early_statuses, run_statuses, IsStatus, IsOneOf}
 use Rattle.dwc_cli.specs.Failures.{failure_status, failure_message, usage_message, write_message}
 use Rattle.dwc_cli.specs.Printed.{printed}
 use Rattle.dwc_cli.specs.Answers.{IsMessage, reading_statuses, text_statuses}
 use Rattle.dwc_cli.proofs.CallLaws.{ReadsFront-none, ReadsFront-status, ReadsFront-named, WritesUntilFailure-none, WritesUntilFailure-all, WritesUntilFailure-failed}
 use Rattle.dwc_cli.proofs.Statuses.{IsOneOf-from, IsOneOf-more, IsOneOf-other}
 use Rattle.dwc_cli.proofs.Messages.{IsMessage-usage, IsMessage-reading, IsMessage-text, IsMessage-write}
-use Rattle.dwc_cli.proofs.RunExits.{InputCauses-reading, InputCauses-text, MissingCause-read, Succeeds-read, PrefixWritten-read, TextCauses-write, only_memory, complete_read}
+use Rattle.dwc_cli.proofs.RunExits.{InputCauses-reading, InputCauses-text, MissingCause-read, ReadsAll-early, ReadsAll-read, SaysOfRead-front, SaysOfRead-reading, SaysOfRead-status, SaysOfRead-text, SaysOfRead-usage, SaysOfRead-written, Succeeds-read, PrefixWritten-read, TextCauses-write, only_memory, complete_read}
 use Rattle.dwc_cli.proofs.command.run.Goals as goal
 
 pub returns-in_default-clause-said : goal.returns-in_default-clause-said
@@ -186,3 +186,61 @@ returns-in-Ok-print_sections-clause-ends g c =
 pub returns-clause-ends : goal.returns-clause-ends
 returns-clause-ends g c =
     WritesUntilFailure-failed c.refuse-in-Err-print_sections.result _ _ _ _ c.refuse-in-Err-print_sections.ensures.status c.in-Err-print_sections.ensures.ends.once c.in-Err-print_sections.ensures.ends.last
+
+-- ---- what was read, whatever the source tells
+
+pub returns-in_default-clause-all_read : goal.returns-in_default-clause-all_read
+returns-in_default-clause-all_read g c = ReadsAll-early (map string_bytes c.args.words.now) 2 _ _ _ c.refuse.ensures.status (IsOneOf-from early_statuses 2 refl)
+
+pub returns-in_default-clause-of_read : goal.returns-in_default-clause-of_read
+returns-in_default-clause-of_read g c = SaysOfRead-usage (map string_bytes c.args.words.now) _ _ _ _ _ _ _ _ _ (sym c.in_default.ensures)
+
+pub returns-in-Err-clause-all_read : goal.returns-in-Err-clause-all_read
+returns-in-Err-clause-all_read g c =
+    let status = failure_status c.in-Err.failure in
+    ReadsAll-early (map string_bytes c.args.words.now) status _ _ _ c.refuse-in-Err.ensures.status (IsOneOf-more reading_statuses early_statuses status refl c.in-Err.ensures.status)
+
+pub returns-in-Err-clause-of_read : goal.returns-in-Err-clause-of_read
+returns-in-Err-clause-of_read g c =
+    let words = map string_bytes c.args.words.now in
+    let status = failure_status c.in-Err.failure in
+    let says = SaysOfRead-reading words (paths_view c.in-Some.paths) status (g.S.Source.asked c.args.source.now) (g.S.Source.asked c.read_input.new.source) _ _ _ _ _ _ (sym c.in-Some.ensures) c.in-Err.ensures.status c.in-Err.ensures.cut c.in-Err.ensures.read_fault in
+    SaysOfRead-status words status _ _ _ _ _ _ _ _ _ c.refuse-in-Err.ensures.status says
+
+pub returns-in-Err-sections_of-clause-all_read : goal.returns-in-Err-sections_of-clause-all_read
+returns-in-Err-sections_of-clause-all_read g c =
+    let read = c.in-Ok.ensures.input in
+    ReadsAll-read (g.S.Source.files c.args.source.now) (map string_bytes c.args.words.now) (paths_view c.in-Some.paths) read.0 _ _ _ (sym c.in-Some.ensures) read.2 c.in-Ok.ensures.all_opened read.3
+
+pub returns-in-Err-sections_of-clause-of_read : goal.returns-in-Err-sections_of-clause-of_read
+returns-in-Err-sections_of-clause-of_read g c =
+    let words = map string_bytes c.args.words.now in
+    let status = failure_status c.in-Err-sections_of.failure in
+    let read = c.in-Ok.ensures.input in
+    let of_text = c.in-Err-sections_of.ensures in
+    let says = SaysOfRead-text (g.S.Source.files c.args.source.now) words (paths_view c.in-Some.paths) read.0 status _ _ _ _ _ _ _ _ read.2 read.3 of_text.status (of_text.causes read.0 read.1) (of_text.complete read.0 read.1) in
+    SaysOfRead-status words status _ _ _ _ _ _ _ _ _ c.refuse-in-Err-sections_of.ensures.status says
+
+pub returns-in-Ok-print_sections-clause-all_read : goal.returns-in-Ok-print_sections-clause-all_read
+returns-in-Ok-print_sections-clause-all_read g c =
+    let read = c.in-Ok.ensures.input in
+    ReadsAll-read (g.S.Source.files c.args.source.now) (map string_bytes c.args.words.now) (paths_view c.in-Some.paths) read.0 _ _ _ (sym c.in-Some.ensures) read.2 c.in-Ok.ensures.all_opened read.3
+
+pub returns-in-Ok-print_sections-clause-of_read : goal.returns-in-Ok-print_sections-clause-of_read
+returns-in-Ok-print_sections-clause-of_read g c =
+    let words = map string_bytes c.args.words.now in
+    let read = c.in-Ok.ensures.input in
+    let says = SaysOfRead-written (g.S.Source.files c.args.source.now) words (paths_view c.in-Some.paths) read.0 (printed (map section_view c.in-Ok-sections_of.sections.items)) _ _ _ _ _ _ _ _ read.2 read.3 (c.in-Ok-sections_of.ensures.causes read.0 read.1) (c.in-Ok-sections_of.ensures.carried read.0 read.1) (rw c.deref.ensures.value at c.in-Ok-print_sections.ensures.whole) in
+    SaysOfRead-status words 0 _ _ _ _ _ _ _ _ _ c.code.ensures says
+
+pub returns-clause-all_read : goal.returns-clause-all_read
+returns-clause-all_read g c =
+    let read = c.in-Ok.ensures.input in
+    ReadsAll-read (g.S.Source.files c.args.source.now) (map string_bytes c.args.words.now) (paths_view c.in-Some.paths) read.0 _ _ _ (sym c.in-Some.ensures) read.2 c.in-Ok.ensures.all_opened read.3
+
+pub returns-clause-of_read : goal.returns-clause-of_read
+returns-clause-of_read g c =
+    let words = map string_bytes c.args.words.now in
+    let read = c.in-Ok.ensures.input in
+    let says = SaysOfRead-front (g.S.Source.files c.args.source.now) words (paths_view c.in-Some.paths) read.0 (printed (map section_view c.in-Ok-sections_of.sections.items)) _ _ _ _ _ _ _ _ read.2 read.3 (TextCauses-write read.0 (c.in-Ok-sections_of.ensures.causes read.0 read.1)) (c.in-Ok-sections_of.ensures.carried read.0 read.1) (rw c.deref.ensures.value at c.in-Err-print_sections.ensures.front) c.in-Err-print_sections.ensures.cause.failed in
+    SaysOfRead-status words 8 _ _ _ _ _ _ _ _ _ c.refuse-in-Err-print_sections.ensures.status says

@@ -12,6 +12,6 @@ invariant-loop g l = record {
   longest : g.S.Source.longest l.source ≡ max (g.S.Source.longest l.fn.source) (vec_len l.bytes);
   counted : l.counter ≤ vec_len l.bytes;
   within : vec_len l.bytes ≤ most_bytes;
-  asked : IsOpen l.path (g.S.Source.asked l.fn.source) (g.S.Source.asked l.source);
+  asked : IsOpen l.path l.bytes.items (g.S.Source.asked l.fn.source) (g.S.Source.asked l.source);
   same : g.S.Source.faults l.source ≡ g.S.Source.faults l.fn.source;
 }

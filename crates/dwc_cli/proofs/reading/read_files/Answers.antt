@@ -1,9 +1,10 @@
-use Rattle.std.proofs.Common.{◌+◌, map, string_bytes, refl, arith}
+use Rattle.std.proofs.Common.{◌+◌, map, string_bytes, refl, sym, ap, ◌∙◌, arith}
 use Rattle.std.proofs.lemmas.Result.{err_from_is_err_and}
 use Rattle.dwc_cli.specs.Edge.{IsReadFile}
-use Rattle.dwc_cli.specs.Answers.{reading_statuses}
+use Rattle.dwc_cli.specs.Failures.{failure_status}
+use Rattle.dwc_cli.specs.Answers.{reading_statuses, status_of}
 use Rattle.dwc_cli.proofs.Statuses.{IsOneOf-from}
-use Rattle.dwc_cli.proofs.CallLaws.{ReadsFront-none, ReadsFront-status, ReadsFront-things, ReadsPaths-more}
+use Rattle.dwc_cli.proofs.CallLaws.{openings-all, ReadsFewer-cut, ReadsFront-none, ReadsFront-status, ReadsFront-things, ReadsPaths-more}
 use Rattle.dwc_cli.proofs.NamedFiles.{read_to_end}
 use Rattle.dwc_cli.proofs.reading.read_files.Goals as goal
 
@@ -38,3 +39,13 @@ returns-in_err-push-clause-asked g c =
 pub returns-clause-asked : goal.returns-clause-asked
 returns-clause-asked g c =
     ReadsFront-things string_bytes c.args.paths.now c.loop-path.path-index 0 _ _ _ _ c.loop-path.invariant.asked
+
+pub returns-in_err-bytes-clause-cut : goal.returns-in_err-bytes-clause-cut
+returns-in_err-bytes-clause-cut g c = λ e.
+    let p = err_from_is_err_and c.from_residual-in_err-bytes.result c.from_residual-in_err-bytes.ensures.1 in
+    let l = c.loop-path in
+    let four = sym (ap failure_status p.2) ∙ sym (ap status_of p.1) ∙ e in
+    ReadsFewer-cut (λ m. m.items) string_bytes l.files.items c.args.paths.now l.path-index (g.S.Source.asked c.args.source.now) (g.S.Source.asked l.source) (g.S.Source.asked c.read_file.new.source) l.invariant.whole (c.in_err-bytes.ensures.cut four) l.invariant.counted c.loop-path-test.true
+
+pub returns-clause-all_opened : goal.returns-clause-all_opened
+returns-clause-all_opened g c = openings-all string_bytes c.args.paths.now c.loop-path.path-index (g.S.Source.asked c.args.source.now) (g.S.Source.asked c.loop-path.source) c.loop-path-test.false c.loop-path.invariant.asked.opened

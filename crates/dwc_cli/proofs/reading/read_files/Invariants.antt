@@ -1,5 +1,6 @@
-use Rattle.std.proofs.Common.{◌≡◌, ◌≤◌, ◌++◌, ℕ, List, map, take, drop, string_bytes}
+use Rattle.std.proofs.Common.{◌≡◌, ◌≤◌, ◌++◌, ℕ, List, length, map, take, drop, string_bytes}
 use Rattle.std.specs.List.{AllZip}
+use Rattle.dwc_cli.specs.Calls as Calls
 use Rattle.dwc_cli.specs.Calls.{ReadsPaths}
 use Rattle.dwc_cli.specs.RunStatus.{most_bytes}
 use Rattle.dwc_cli.specs.Edge.{IsReadFile}
@@ -14,4 +15,6 @@ invariant-loop-path g l = record {
   longest : g.S.Source.longest l.fn.source ≤ most_bytes → g.S.Source.longest l.source ≤ most_bytes;
   later : g.S.Source.faults l.fn.source ≤ g.S.Source.faults l.source;
   asked : ReadsPaths 0 (map string_bytes (take l.path-index l.paths)) (g.S.Source.faults l.fn.source) (g.S.Source.faults l.source) (g.S.Source.asked l.fn.source) (g.S.Source.asked l.source);
+  whole : Calls.files_read (g.S.Source.asked l.source) ≡ Calls.files_read (g.S.Source.asked l.fn.source) ++ map (λ m. m.items) l.files.items;
+  counted : length l.files.items ≡ l.path-index;
 }

@@ -1,4 +1,4 @@
-use Rattle.std.proofs.Common.{◌≡◌, [], ◌∷◌, map, string_bytes, Some, refl, ◌∙◌, sym, ap, subst}
+use Rattle.std.proofs.Common.{◌≡◌, [], ◌∷◌, length, map, string_bytes, Some, refl, ◌∙◌, sym, ap, subst}
 use Rattle.std.specs.Prelude.{Any}
 use Rattle.std.specs.List.{AllZip}
 use Rattle.std.proofs.lemmas.Result.{err_from_is_err_and}
@@ -6,7 +6,7 @@ use Rattle.dwc_cli.specs.Calls.{ReadsPaths, ReadsFront}
 use Rattle.dwc_cli.specs.Edge.{IsLongFile, IsReadFile}
 use Rattle.dwc_cli.specs.Failures.{failure_status, failure_message, fault_message, length_message}
 use Rattle.dwc_cli.specs.Answers.{status_of, message_of}
-use Rattle.dwc_cli.proofs.CallLaws.{ReadsFront-behind}
+use Rattle.dwc_cli.proofs.CallLaws.{behind-one, ReadsFewer-behind, ReadsFewer-first, ReadsFront-behind}
 use Rattle.dwc_cli.proofs.NamedFiles.{Any-more}
 use Rattle.dwc_cli.proofs.reading.read_input.Goals as goal
 
@@ -43,7 +43,7 @@ returns-clause-input g c =
     let modules = map (λ m. m.items) c.in_ok-modules.modules.items in
     let told = c.in_ok-map_file.ensures.file in
     let read = subst (λ fs. AllZip (IsReadFile fs) paths modules) c.in_ok-map_file.ensures.files c.in_ok-modules.ensures.files_read in
-    (record { map_bytes = told.0; modules = modules }, record { map_is = told.2; modules = refl }, (told.1, read))
+    (record { map_bytes = told.0; modules = modules }, record { map_is = told.2; modules = refl }, (told.1, read), behind-one told.0 modules _ _ _ told.3 c.in_ok-modules.ensures.whole)
 
 pub returns-in_err-map_file-clause-asked : goal.returns-in_err-map_file-clause-asked
 returns-in_err-map_file-clause-asked g c =
@@ -76,3 +76,20 @@ returns-in_err-modules-clause-length_named g c = λ e.
 pub returns-clause-asked : goal.returns-clause-asked
 returns-clause-asked g c =
     ReadsFront-behind 0 c.args.paths.now.map_path.now (map string_bytes c.args.paths.now.module_paths.now) _ _ _ _ _ _ c.in_ok-map_file.ensures.asked c.in_ok-modules.ensures.asked
+
+pub returns-in_err-map_file-clause-cut : goal.returns-in_err-map_file-clause-cut
+returns-in_err-map_file-clause-cut g c = λ e.
+    let p = err_from_is_err_and c.from_residual.result c.from_residual.ensures.1 in
+    let four = sym (ap failure_status p.2) ∙ sym (ap status_of p.1) ∙ e in
+    ReadsFewer-first (length (map string_bytes c.args.paths.now.module_paths.now)) (g.S.Source.asked c.args.source.now) (g.S.Source.asked c.read_map.new.source) (c.in_err-map_file.ensures.cut four)
+
+pub returns-in_err-modules-clause-cut : goal.returns-in_err-modules-clause-cut
+returns-in_err-modules-clause-cut g c = λ e.
+    let p = err_from_is_err_and c.from_residual-in_err-modules.result c.from_residual-in_err-modules.ensures.1 in
+    let four = sym (ap failure_status p.2) ∙ sym (ap status_of p.1) ∙ e in
+    let told = c.in_ok-map_file.ensures.file in
+    ReadsFewer-behind told.0 (length (map string_bytes c.args.paths.now.module_paths.now)) (g.S.Source.asked c.args.source.now) (g.S.Source.asked c.read_map.new.source) (g.S.Source.asked c.read_files.new.source) told.3 (c.in_err-modules.ensures.cut four)
+
+pub returns-clause-all_opened : goal.returns-clause-all_opened
+returns-clause-all_opened g c =
+    behind-one c.args.paths.now.map_path.now (map string_bytes c.args.paths.now.module_paths.now) _ _ _ c.in_ok-map_file.ensures.asked.opened c.in_ok-modules.ensures.all_opened
