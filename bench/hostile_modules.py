@@ -4,13 +4,13 @@
 - ends_of_a_table: N units, each of which names the end of one table of N declarations from another declaration on.
 - one_list: N subprograms that name one range list of N pairs, which shows no code.
 - long_type: N functions without a symbol, of one type of N parameters.
-- texts_of_one_hash: N names that have one number in the table of texts.
 - nested_label: N attributes that ask for one label, whose N ranges lie one in another.
 - tails: N pointers that go by N constants into one chain of N constants.
 - tails_of_two: N pointers that go by N constants of N constants into one chain of N constants.
 
-For this the time still grows faster than what is read and written:
+For these the time still grows faster than what is read and written:
 
+- texts_of_one_hash: N names that the hash of the table of texts takes for one.
 - tails_into_a_ring: N pointers that go by N constants into one ring of N pointers, at one place.
 """
 
@@ -138,7 +138,7 @@ SIZES = {
     "tables_in_turn": [20000, 40000],
     "ends_of_a_table": [20000, 40000],
     "one_list": [100000, 200000],
-    "texts_of_one_hash": [40000, 80000],
+    "texts_of_one_hash": [10000, 20000],
     "tails": [20000, 40000],
     "tails_of_two": [20000, 40000],
     "tails_into_a_ring": [2500, 5000],
