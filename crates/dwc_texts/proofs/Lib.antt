@@ -1,0 +1,4 @@
+pub mod TextIndexLaws
+pub mod TextMapLaws
+pub mod SlotLaws
+pub mod TextSets
