@@ -1,5 +1,5 @@
 -- What a run may ask of a source and of a sink, and calls that its clauses refuse. The latest call stands first.
-use Rattle.std.proofs.Common.{ℕ, List, [], ◌∷◌, length, true, false, refl, sym, ap, arith}
+use Rattle.std.proofs.Common.{◌≡◌, ℕ, List, [], ◌∷◌, length, true, false, refl, sym, ap, arith}
 use Rattle.std.proofs.lemmas.Bool.{true≢false}
 use Rattle.dwc_cli.specs.Calls.{opening, passing, files_read, passed, ReadsPaths, WritesUntilFailure}
 

@@ -502,12 +502,14 @@ well-small : (reads writes : ℕ) → reads < 9 → writes < 9 → RunsWell (Som
 well-small reads writes few fewer = record {
   input = input_small;
   named = names map_bytes_small file_small [];
-  read = read_small;
-  is_read = small-read;
-  short = short_small;
-  reads = λ rose. omega (arith, rose);
-  writes = λ rose. omega (arith, rose);
-  valid = valid-small;
+  well = record {
+    read = read_small;
+    is_read = small-read;
+    short = short_small;
+    reads = λ rose. omega (arith, rose);
+    writes = λ rose. omega (arith, rose);
+    valid = valid-small;
+  };
 }
 
 -- each refusal of it is refused, whatever its cause
