@@ -7,10 +7,10 @@
 - nested_label: N attributes that ask for one label, whose N ranges lie one in another.
 - tails: N pointers that go by N constants into one chain of N constants.
 - tails_of_two: N pointers that go by N constants of N constants into one chain of N constants.
+- texts_of_one_hash: N names that the hash of the table of texts takes for one.
 
 For these the time still grows faster than what is read and written:
 
-- texts_of_one_hash: N names that the hash of the table of texts takes for one.
 - tails_into_a_ring: N pointers that go by N constants into one ring of N pointers, at one place.
 """
 

@@ -14,7 +14,6 @@ mod rows;
 pub mod small_places;
 pub mod spelled_rows;
 mod strings;
-pub mod text;
 mod units;
 
 pub use attributes::{AttributeValue, DebugInfoRef};

@@ -6,9 +6,8 @@ ghost use Rattle.dwc_dwarf.specs.TreeLaws.{with_new_text};
 ghost use Rattle.dwc_unit.specs.TextTables.{AreTexts, IsText};
 ghost use Rattle.dwc_section.specs.declared.error.WriteError.TheVariants.{OutOfMemory};
 
-use crate::text::{Sought, Text};
 use dwc_section::WriteError;
-use indexmap::IndexSet;
+use dwc_texts::{Text, Texts};
 use std::alloc::Global;
 use std::marker::Model;
 
@@ -22,7 +21,7 @@ pub struct StringId {
 /// Texts in the order in which they were added, each once.
 #[derive(Drop)]
 pub struct StringTable {
-    texts: IndexSet<Text>,
+    texts: Texts,
 }
 
 impl Model for StringTable {
@@ -31,9 +30,9 @@ impl Model for StringTable {
 
     ghost Value = { List (List ℕ) };
 
-    ghost view = { λ t. t.texts.keys };
+    ghost view = { λ t. t.texts };
 
-    ghost invariant = { λ t. AreTexts t.texts.keys };
+    ghost invariant = { λ t. AreTexts t.texts };
 }
 
 impl StringTable {
@@ -42,11 +41,14 @@ impl StringTable {
         ensures { result ≡ [] }
     {
         StringTable {
-            texts: IndexSet::new(alloc),
+            texts: Texts::new(alloc),
         }
     }
 
-    /// Adds a text, which has no zero byte, behind the others, unless it is there; its number.
+    /// Adds a text, which has no zero byte, behind the others, unless it is there; its number. No choice of texts makes it slow.
+    ///
+    /// # Errors
+    /// `OutOfMemory` for want of memory. The table is then as it was.
     pub fn add(&mut self, text: &[u8]) -> Result<StringId, WriteError>
         requires { IsText text.now }
         ensures ok { OnOk result (self.new ≡ with_new_text self.old text.now) }
@@ -54,12 +56,7 @@ impl StringTable {
         ensures err { OnErr result (self.new ≡ self.old) }
         ensures memory { IsOkUnless result OutOfMemory }
     {
-        if let Some(index) = self.texts.get_index_of(Sought { bytes: text }) {
-            return Ok(StringId { index });
-        }
-        let index = self.texts.len();
-        let alloc = *self.texts.allocator();
-        self.texts.insert(Text::new(alloc, text)?)?;
+        let index = self.texts.add(text)?;
         Ok(StringId { index })
     }
 
@@ -67,7 +64,7 @@ impl StringTable {
     pub fn know_texts(&self)
         ensures { AreTexts self.now }
     {
-        let _known = self.texts.len();
+        let _known = self.texts.as_slice();
     }
 
     /// The texts in their order.

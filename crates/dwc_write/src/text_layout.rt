@@ -13,7 +13,7 @@ use crate::layout::UnitLayout;
 use dwc_base::{Endian, Limit, SectionName};
 use dwc_section::writer::MOST_BYTES;
 use dwc_section::{WriteError, WriterRelocate};
-use dwc_unit::text::Text;
+use dwc_texts::Text;
 use std::alloc::Global;
 
 // Texts as they will stand.
