@@ -1,6 +1,5 @@
 -- The texts of a module that were read already, by the places where they stand.
-use Rattle.std.specs.Prelude.{◌≡◌, ℕ, nat_eq, ◌<◌, List, length, Option, None, IfSome, Result, Ok, Err}
-use Rattle.std.specs.HashMap.{get}
+use Rattle.std.specs.Prelude.{◌≡◌, ℕ, ◌<◌, List, length, Option, None, IfSome, Result, Ok, Err}
 use Rattle.dwc_base.specs.declared.faults.Flaw.{Flaw}
 use Rattle.dwc_base.specs.declared.section_name.SectionName.{SectionName}
 use Rattle.dwc_base.specs.declared.section_name.SectionName.TheVariants.{LineStr, Str}
@@ -11,12 +10,13 @@ use Rattle.dwc_read.specs.Faults.{Refuses, fault_seen}
 use Rattle.dwc_read.specs.TextPlaces.{text_at_place}
 use Rattle.dwc_unit.specs.declared.strings.StringId.{StringId}
 use Rattle.dwc_unit.specs.UsedTexts.{text_numbered}
+use Rattle.dwc_source.specs.NotedOffsets.{noted_at}
 use Rattle.dwc_source.specs.declared.known_texts.KnownTexts.{KnownTexts}
 
 -- what is noted of the text at an offset of a section: its number in the table, if it is there
 abbrev pub noted_in : KnownTexts → SectionName → ℕ → Option (Option StringId)
-noted_in known Str offset = get nat_eq known.strings offset
-noted_in known LineStr offset = get nat_eq known.line_strings offset
+noted_in known Str offset = noted_at known.strings offset
+noted_in known LineStr offset = noted_at known.line_strings offset
 noted_in known _ offset = None
 
 abbrev pub noted : KnownTexts → TextPlace → Option (Option StringId)

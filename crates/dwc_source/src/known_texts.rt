@@ -4,18 +4,18 @@ ghost use Rattle.dwc_base.specs.Sections.{Sections};
 ghost use Rattle.dwc_read.specs.TextPlaces.{text_at_place};
 ghost use Rattle.dwc_source.specs.KnownTexts.{IsKnown, KnowsTexts, noted};
 
+use crate::noted_offsets::NotedOffsets;
 use dwc_base::SectionName;
 use dwc_read::TextPlace;
 use dwc_unit::StringId;
 use std::alloc::{AllocError, Global};
-use std::collections::HashMap;
 
 /// The texts of a module that were read already, by the offset where each stands in `.debug_str` or `.debug_line_str`, with its number in
 /// the table of texts, if it was added there. So a text is read once, however many entries name it.
 #[derive(Drop)]
 pub struct KnownTexts {
-    strings: HashMap<u64, Option<StringId>>,
-    line_strings: HashMap<u64, Option<StringId>>,
+    strings: NotedOffsets,
+    line_strings: NotedOffsets,
 }
 
 impl KnownTexts {
@@ -24,8 +24,8 @@ impl KnownTexts {
         ensures { (s : Sections) (texts : List (List ℕ)) → KnowsTexts s texts result }
     {
         KnownTexts {
-            strings: HashMap::new(alloc),
-            line_strings: HashMap::new(alloc),
+            strings: NotedOffsets::new(alloc),
+            line_strings: NotedOffsets::new(alloc),
         }
     }
 
@@ -35,8 +35,8 @@ impl KnownTexts {
     {
         let place = place?;
         match place.section {
-            SectionName::Str => self.strings.get(&place.offset).copied(),
-            SectionName::LineStr => self.line_strings.get(&place.offset).copied(),
+            SectionName::Str => self.strings.find(place.offset),
+            SectionName::LineStr => self.line_strings.find(place.offset),
             _ => None,
         }
     }
@@ -52,10 +52,9 @@ impl KnownTexts {
             return Ok(());
         };
         match place.section {
-            SectionName::Str => self.strings.insert(place.offset, id)?,
-            SectionName::LineStr => self.line_strings.insert(place.offset, id)?,
-            _ => None,
-        };
-        Ok(())
+            SectionName::Str => self.strings.note(place.offset, id),
+            SectionName::LineStr => self.line_strings.note(place.offset, id),
+            _ => Ok(()),
+        }
     }
 }

@@ -6,6 +6,7 @@ mod error;
 mod files;
 mod known_texts;
 mod names;
+mod noted_offsets;
 mod places;
 mod source;
 mod text;
