@@ -7,12 +7,16 @@
 - nested_label: N attributes that ask for one label, whose N ranges lie one in another.
 - tails: N pointers that go by N constants into one chain of N constants.
 - tails_of_two: N pointers that go by N constants of N constants into one chain of N constants.
-- texts_of_one_hash: N names that the hash of the table of texts takes for one.
+- texts_of_close_hash: N names elsewhere, at offsets whose hashes stand close together in a table of N.
+- shapes_of_close_hash: N entries of N shapes, whose hashes stand close together in a table of N.
+- texts_of_one_slot: N names elsewhere, at offsets that share 64 slots of the table of known texts.
 
 For these the time still grows faster than what is read and written:
 
 - tails_into_a_ring: N pointers that go by N constants into one ring of N pointers, at one place.
 """
+
+import itertools
 
 from make_modules import section, u32, uleb
 from small_module import PREAMBLE, function, line_table, module, unit
@@ -21,7 +25,8 @@ ROOT_ENTRY = b"\x01" + u32(0)
 SUBPROGRAM_ENTRY = b"\x02" + u32(2) + u32(11)
 FIRST = 11 + len(ROOT_ENTRY) + len(SUBPROGRAM_ENTRY)  # where the first entry of the subprogram stands
 EXPRESSION_OF_A_LOCAL = bytes.fromhex("04 ED0003 9F")
-HASH_OF_ONE = (0x9E3779B97F4A7C15).to_bytes(8, "little")  # behind any eight bytes, these eight lead to one hash
+SEED, MULTIPLIER = 0x243F6A8885A308D3, 0x9E3779B97F4A7C15  # of the toolchain's hash
+HASH_OF_ONE = MULTIPLIER.to_bytes(8, "little")  # behind any eight bytes, these eight lead to one hash
 
 
 def declaration(code, tag, has_children, *attributes):
@@ -78,6 +83,59 @@ def texts_of_one_hash_module(count):
     return with_entries([named], b"".join(b"\x03" + text_of(i) + HASH_OF_ONE + b"\0" for i in range(count)) + b"\0\0")
 
 
+def state_behind(pieces, state=SEED):
+    """The state of the toolchain's hash behind pieces of up to eight bytes."""
+    for piece in pieces:
+        ends = (piece[0], piece[len(piece) // 2], piece[-1]) if len(piece) < 4 else piece[:4] + piece[-4:]
+        product = (state ^ int.from_bytes(bytes(ends), "little")) * (MULTIPLIER ^ 2 * len(piece))
+        state = product % 2**64 ^ product >> 64
+    return state
+
+
+def close_ones(keys, count):
+    """So many of some keys, which come with their states: those whose place is in the first sixteenth of a table's groups."""
+    groups = 1
+    while 9 * groups < count:
+        groups *= 2
+    close = (key for key, state in keys if 16 * ((state ^ state >> 32) % groups) < groups)
+    return [key for key, _ in zip(close, range(count))]
+
+
+def texts_at(offsets):
+    """A module of names elsewhere, at offsets, which are of a few texts."""
+    named = declaration(3, 0x34, False, (0x03, 0x0E))
+    texts = b"counter\0" * (max(offsets) // 8 + 1)
+    return with_entries([named], b"".join(b"\x03" + u32(offset) for offset in offsets) + b"\0\0", others=[(".debug_str", texts)])
+
+
+def texts_of_close_hash_module(count):
+    offsets = ((offset, state_behind([offset.to_bytes(8, "little")])) for offset in itertools.count())
+    return texts_at(close_ones(offsets, count))
+
+
+def texts_of_one_slot_module(count):
+    return texts_at([8192 * (i // 64) + i % 64 for i in range(count)])
+
+
+def of_one_byte(name):
+    """What is hashed of an attribute of one byte."""
+    return [name.to_bytes(2, "little"), b"\x0b\0"]
+
+
+def pairs_of_attributes():
+    """Pairs of names, each with the state of a variable without children that has attributes of these names."""
+    for first in range(0x2100, 0x3000):
+        front = state_behind([b"\x34\0", b"\0", (2).to_bytes(8, "little"), *of_one_byte(first)])
+        for second in range(0x3000, 0x3F00):
+            yield (first, second), state_behind(of_one_byte(second), front)
+
+
+def shapes_of_close_hash_module(count):
+    shapes = close_ones(pairs_of_attributes(), count)
+    declarations = [declaration(3 + i, 0x34, False, *((name, 0x0B) for name in names)) for i, names in enumerate(shapes)]
+    return with_entries(declarations, b"".join(uleb(3 + i) + b"\1\2" for i in range(count)) + b"\0\0")
+
+
 def links(code, target, step, count):
     """Entries of a code that refer to a target and to what stands behind it, so many bytes each."""
     return b"".join(bytes([code]) + u32(target + step * i) for i in range(count))
@@ -130,6 +188,9 @@ KINDS = {
     "tails": lambda n: [tails_module(n)],
     "tails_of_two": lambda n: [tails_module(n, 2)],
     "tails_into_a_ring": lambda n: [tails_into_a_ring_module(n)],
+    "texts_of_close_hash": lambda n: [texts_of_close_hash_module(n)],
+    "texts_of_one_slot": lambda n: [texts_of_one_slot_module(n)],
+    "shapes_of_close_hash": lambda n: [shapes_of_close_hash_module(n)],
     "nested_label": lambda n: [nested_label_module(n)],
     "long_type": lambda n: [long_type_module(n)],
 }
@@ -142,6 +203,9 @@ SIZES = {
     "tails": [20000, 40000],
     "tails_of_two": [20000, 40000],
     "tails_into_a_ring": [2500, 5000],
+    "texts_of_close_hash": [32000, 64000],
+    "texts_of_one_slot": [32000, 64000],
+    "shapes_of_close_hash": [32000, 64000],
     "nested_label": [10000, 20000],
     "long_type": [20000, 40000],
 }

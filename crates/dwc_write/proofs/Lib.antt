@@ -14,7 +14,7 @@ pub mod ListsGiven
 pub mod RelatedListsGiven
 pub mod SequenceLaws
 pub mod ShapeLaws
-pub mod ShapeSets
+pub mod ShapeWords
 pub mod ShapePlaces
 pub mod OrderedLaws
 pub mod ReadRelocations

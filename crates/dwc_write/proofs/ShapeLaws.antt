@@ -8,7 +8,7 @@ use Rattle.dwc_base.specs.declared.constants.TheConstants.{DW_FORM_implicit_cons
 use Rattle.dwc_base.specs.NumberBytes.{uleb_bytes}
 use Rattle.dwc_unit.specs.SpelledTables.{spec_bytes, declaration_bytes}
 use Rattle.dwc_unit.specs.declared.attributes.AttributeForm.{AttributeForm}
-use Rattle.dwc_write.specs.declared.abbreviations.Shape.{Shape}
+use Rattle.dwc_write.specs.declared.shapes.Shape.{Shape}
 use Rattle.dwc_write.specs.ShapeViews.{shape_view}
 use Rattle.dwc_unit.specs.GivenUnits.{EntryShape, IsPlainShape, same_flag, same_forms, same_shape, place_in, with_use, form_bytes, shape_bytes, spec_of_form, numbered}
 use Rattle.dwc_section.proofs.WritesLaws.{all-seen}

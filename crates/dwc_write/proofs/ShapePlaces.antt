@@ -4,10 +4,10 @@ use Rattle.std.specs.Prelude.{if◌then◌else◌, ◌==◌, ◌&&◌}
 use Rattle.std.proofs.lemmas.Bool.{ltb-false, ltb-true}
 use Rattle.std.proofs.lemmas.List.{get_or-map, length-map}
 use Rattle.dwc_unit.specs.declared.attributes.AttributeForm.{AttributeForm}
-use Rattle.dwc_write.specs.declared.abbreviations.Shape.{Shape}
+use Rattle.dwc_write.specs.declared.shapes.Shape.{Shape}
 use Rattle.dwc_unit.specs.declared.attributes.Attribute.{Attribute}
 use Rattle.dwc_unit.specs.GivenUnits.{AreOwn, EntryShape, form_of, forms_of, place_in, same_forms, same_shape, with_use}
-use Rattle.dwc_write.specs.ShapeViews.{shape_view}
+use Rattle.dwc_write.specs.ShapeViews.{StandsAt, shape_view}
 use Rattle.dwc_write.proofs.EntriesLaws.{place-more, place-new}
 use Rattle.dwc_write.proofs.ShapeLaws.{same_shape-equal}
 
@@ -43,6 +43,9 @@ guessed s ks k place own within is same =
     let at = get_or-map shape_view ks place k (shape_view k) within in
     let met : get_or (map shape_view ks) place (shape_view k) ≡ s = at ∙ ap shape_view (sym is) ∙ same_shape-equal (shape_view k) s same in
     ap (λ t. place_in t (map shape_view ks)) (sym met) ∙ own place (shape_view k) (omega (arith, within, length-map ks shape_view))
+
+pub guessed-stands : (s : EntryShape) (ks : List Shape) (k : Shape) (place : ℕ) → AreOwn (map shape_view ks) → place < length ks → k ≡ get_or ks place k → same_shape (shape_view k) s ≡ true → StandsAt s (map shape_view ks) place
+guessed-stands s ks k place own within is same = record { is = guessed s ks k place own within is same; inside = omega (arith, within, length-map ks shape_view) }
 
 -- forms of which there are others many are others
 pub forms-differ : (xs : List AttributeForm) (ys : List Attribute) → length xs ≢ length ys → false ≡ same_forms xs (forms_of ys)

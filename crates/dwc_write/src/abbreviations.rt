@@ -1,51 +1,30 @@
 //! Abbreviation tables: what the entries of a unit have, and their codes. (DWARF 4, section 7.5.3.)
-ghost use Rattle.std.specs.Prelude.{◌≡◌, ◌++◌, ◌==◌, ◌&&◌, OnOk, IfOk, map};
+ghost use Rattle.std.specs.Prelude.{◌≡◌, ◌<◌, ◌++◌, ◌==◌, ◌&&◌, OnOk, IfOk, length, map, true};
 ghost use Rattle.std.specs.List.{All, flat_map};
 ghost use Rattle.dwc_unit.specs.SpelledTables.{table_bytes};
-ghost use Rattle.dwc_unit.specs.GivenUnits.{AreOwn, IsPlainShape, code_in, form_bytes, form_of as form_of_attribute, forms_of, numbered, same_forms, same_shape, shape_bytes, with_use};
-ghost use Rattle.dwc_write.specs.ShapeViews.{shape_view};
+ghost use Rattle.dwc_unit.specs.GivenUnits.{AreOwn, IsPlainShape, code_in, form_bytes, form_of as form_of_attribute, forms_of, numbered, place_in, same_forms, same_shape, shape_bytes, with_use};
+ghost use Rattle.dwc_write.specs.ShapeViews.{AreFound, StandsAt, shape_view, shape_words};
 
+use crate::shapes::{Shape, Shapes, set_words};
 use dwc_section::put_uleb;
 use dwc_unit::attributes::{AttributeForm, KeptAttribute, form_of};
-use indexmap::IndexSet;
-use smallvec::SmallVec;
-use std::alloc::{AllocError, Global};
-
-// Most declarations have no more attributes.
-const USUAL_ATTRIBUTES: usize = 6;
-
-// What the declaration of an entry says beside its code.
-#[derive(PartialEq, Eq, Hash, Drop)]
-pub struct Shape {
-    pub(crate) tag: u16,
-    pub(crate) has_children: bool,
-    pub(crate) attributes: SmallVec<AttributeForm, USUAL_ATTRIBUTES>,
-}
-
-impl Shape {
-    // One without attributes.
-    pub fn new(alloc: Global) -> Shape {
-        Shape {
-            tag: 0,
-            has_children: false,
-            attributes: SmallVec::new(alloc),
-        }
-    }
-}
+use std::alloc::AllocError;
 
 // The code of an entry by its shape, which is kept where it is new. One place is looked at first, since entries of a tag often have one
-// shape; a buffer holds the shape where it does not stand there.
+// shape; a buffer holds its words where it does not stand there.
 pub fn code_of_entry(
-    shapes: &mut IndexSet<Shape>,
-    buffer: &mut Shape,
+    shapes: &mut Shapes,
+    words: &mut Vec<u16>,
     guess: u64,
     tag: u16,
     has_children: bool,
     attributes: &[KeptAttribute],
 ) -> Result<u64, AllocError>
-    requires { AreOwn (map shape_view shapes.old.keys) }
-    ensures shapes { OnOk result (map shape_view shapes.new.keys ≡ with_use (record { tag = tag; has_children = has_children; attributes = forms_of attributes.now }) (map shape_view shapes.old.keys)) }
-    ensures code { IfOk result (λ code. code ≡ code_in (map shape_view shapes.old.keys) (record { tag = tag; has_children = has_children; attributes = forms_of attributes.now })) }
+    requires own { AreOwn (map shape_view shapes.old.shapes.items) }
+    requires found { AreFound shapes.old }
+    ensures shapes { OnOk result (map shape_view shapes.new.shapes.items ≡ with_use (record { tag = tag; has_children = has_children; attributes = forms_of attributes.now }) (map shape_view shapes.old.shapes.items)) }
+    ensures code { IfOk result (λ code. code ≡ code_in (map shape_view shapes.old.shapes.items) (record { tag = tag; has_children = has_children; attributes = forms_of attributes.now })) }
+    ensures found { OnOk result (AreFound shapes.new) }
 {
     if guess < shapes.len() as u64 {
         let known = &shapes.as_slice()[guess as usize];
@@ -53,8 +32,71 @@ pub fn code_of_entry(
             return Ok(guess + 1);
         }
     }
-    set_shape(buffer, tag, has_children, attributes)?;
-    code_of(shapes, buffer)
+    code_of(shapes, words, tag, has_children, attributes)
+}
+
+// The code of an entry by its shape, which is kept where it is new.
+#[inline(never)]
+fn code_of(
+    shapes: &mut Shapes,
+    words: &mut Vec<u16>,
+    tag: u16,
+    has_children: bool,
+    attributes: &[KeptAttribute],
+) -> Result<u64, AllocError>
+    requires own { AreOwn (map shape_view shapes.old.shapes.items) }
+    requires found { AreFound shapes.old }
+    ensures shapes { OnOk result (map shape_view shapes.new.shapes.items ≡ with_use (record { tag = tag; has_children = has_children; attributes = forms_of attributes.now }) (map shape_view shapes.old.shapes.items)) }
+    ensures code { IfOk result (λ code. code ≡ code_in (map shape_view shapes.old.shapes.items) (record { tag = tag; has_children = has_children; attributes = forms_of attributes.now })) }
+    ensures found { OnOk result (AreFound shapes.new) }
+{
+    let number = set_words(words, tag, has_children, attributes)?;
+    let near = shapes.near(number);
+    if is_at(shapes, near, tag, has_children, attributes) {
+        return Ok(near as u64 + 1);
+    }
+    let place = place_of_words(shapes, words, tag, has_children, attributes)?;
+    shapes.keep_near(number, place);
+    Ok(place as u64 + 1)
+}
+
+// Whether the shape of an entry stands at a place.
+fn is_at(
+    shapes: &Shapes,
+    place: usize,
+    tag: u16,
+    has_children: bool,
+    attributes: &[KeptAttribute],
+) -> bool
+    requires { AreOwn (map shape_view shapes.now.shapes.items) }
+    ensures { result ≡ true → StandsAt (record { tag = tag; has_children = has_children; attributes = forms_of attributes.now }) (map shape_view shapes.now.shapes.items) place }
+{
+    let known = shapes.as_slice();
+    if place >= known.len() {
+        return false;
+    }
+    is_shape_of(&known[place], tag, has_children, attributes)
+}
+
+// The place of the shape of an entry by its words, which is kept where it is new.
+fn place_of_words(
+    shapes: &mut Shapes,
+    words: &Vec<u16>,
+    tag: u16,
+    has_children: bool,
+    attributes: &[KeptAttribute],
+) -> Result<usize, AllocError>
+    requires words { words.now.items ≡ shape_words (record { tag = tag; has_children = has_children; attributes = forms_of attributes.now }) }
+    requires found { AreFound shapes.old }
+    ensures shapes { OnOk result (map shape_view shapes.new.shapes.items ≡ with_use (record { tag = tag; has_children = has_children; attributes = forms_of attributes.now }) (map shape_view shapes.old.shapes.items)) }
+    ensures place { IfOk result (λ place. place ≡ place_in (record { tag = tag; has_children = has_children; attributes = forms_of attributes.now }) (map shape_view shapes.old.shapes.items)) }
+    ensures inside { IfOk result (λ place. place < length shapes.new.shapes.items) }
+    ensures found { OnOk result (AreFound shapes.new) }
+{
+    match shapes.place_of(words) {
+        Some(place) => Ok(place),
+        None => shapes.add(words, tag, has_children, attributes),
+    }
 }
 
 // Whether a shape is that of an entry.
@@ -86,67 +128,6 @@ fn is_form_of(form: AttributeForm, attribute: &KeptAttribute) -> bool
     ensures { result ≡ ((form.name == attribute.now.name) && (form.form == (form_of_attribute attribute.now).form)) }
 {
     form.name == attribute.name() && form.form == form_of(attribute)
-}
-
-// The code of a shape, which is kept where it is new.
-#[inline(never)]
-fn code_of(shapes: &mut IndexSet<Shape>, shape: &Shape) -> Result<u64, AllocError>
-    ensures shapes { OnOk result (map shape_view shapes.new.keys ≡ with_use (shape_view shape.now) (map shape_view shapes.old.keys)) }
-    ensures code { IfOk result (λ code. code ≡ code_in (map shape_view shapes.old.keys) (shape_view shape.now)) }
-{
-    let count = shapes.len();
-    if let Some(place) = shapes.get_index_of(shape) {
-        return Ok(place as u64 + 1);
-    }
-    shapes.insert(copied(shape)?)?;
-    Ok(count as u64 + 1)
-}
-
-// A shape of its own.
-fn copied(shape: &Shape) -> Result<Shape, AllocError>
-    ensures { IfOk result (λ s. shape_view s ≡ shape_view shape.now) }
-{
-    Ok(Shape {
-        tag: shape.tag,
-        has_children: shape.has_children,
-        attributes: SmallVec::from_slice(
-            *shape.attributes.allocator(),
-            shape.attributes.as_slice(),
-        )?,
-    })
-}
-
-// Makes a shape that of an entry, within the room that it has.
-#[inline(never)]
-fn set_shape(
-    shape: &mut Shape,
-    tag: u16,
-    has_children: bool,
-    attributes: &[KeptAttribute],
-) -> Result<(), AllocError>
-    ensures { OnOk result (shape_view shape.new ≡ record { tag = tag; has_children = has_children; attributes = forms_of attributes.now }) }
-{
-    shape.tag = tag;
-    shape.has_children = has_children;
-    shape.attributes.clear();
-    push_forms(&mut shape.attributes, attributes)
-}
-
-// The names and forms of attributes, behind others.
-fn push_forms(
-    forms: &mut SmallVec<AttributeForm, USUAL_ATTRIBUTES>,
-    attributes: &[KeptAttribute],
-) -> Result<(), AllocError>
-    ensures { OnOk result (forms.new.items ≡ forms.old.items ++ forms_of attributes.now) }
-{
-    forms.reserve(attributes.len())?;
-    for attribute in attributes {
-        forms.push(AttributeForm {
-            name: attribute.name(),
-            form: form_of(attribute),
-        })?;
-    }
-    Ok(())
 }
 
 // The abbreviation table of some shapes, whose codes rise from 1.

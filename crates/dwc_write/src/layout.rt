@@ -10,7 +10,7 @@ ghost use Rattle.dwc_write.specs.Layouts.{codes_of, offset_among, offsets_by_num
 ghost use Rattle.dwc_unit.specs.Lists.{no_lists, nowhere};
 ghost use Rattle.dwc_write.specs.Noted.{if_listed};
 ghost use Rattle.dwc_unit.specs.declared.lists.ListKind.TheVariants.{Locations, Ranges};
-ghost use Rattle.dwc_write.specs.ShapeViews.{shape_view};
+ghost use Rattle.dwc_write.specs.ShapeViews.{AreFound, shape_view};
 ghost use Rattle.dwc_write.specs.ShortLists.{are_short_values};
 ghost use Rattle.dwc_base.specs.NumberBytes.{uleb_bytes};
 ghost use Rattle.dwc_section.specs.Spelled.{at_places};
@@ -20,8 +20,9 @@ ghost use Rattle.dwc_unit.specs.UsedTexts.{texts_of_attributes};
 ghost use Rattle.dwc_unit.specs.WidestGiven.{IsWideRefusal};
 ghost use Rattle.dwc_section.specs.Writers.{most_bytes};
 
-use crate::abbreviations::{Shape, code_of_entry, put_table};
+use crate::abbreviations::{code_of_entry, put_table};
 use crate::notes::{Notes, note_entry};
+use crate::shapes::Shapes;
 use crate::sizes::{advanced, in_four_bytes};
 use dwc_section::WriteError;
 use dwc_section::leb_sizes::uleb_length;
@@ -30,7 +31,6 @@ use dwc_unit::additions::Additions;
 use dwc_unit::attributes::KeptAttribute;
 use dwc_unit::file_order::{FilePlace, depth_of_first, file_order};
 use dwc_unit::small_places::SmallPlace;
-use indexmap::IndexSet;
 use std::alloc::{AllocError, Global};
 
 // The bytes of a unit's header.
@@ -64,7 +64,7 @@ pub struct UnitLayout {
 // The entries of a unit in file order, with what is found of them.
 #[derive(Drop)]
 struct Coded {
-    shapes: IndexSet<Shape>,
+    shapes: Shapes,
     codes: Vec<u32>,
     offsets: Vec<u32>,
     notes: Notes,
@@ -100,7 +100,7 @@ fn lay_out_unit(alloc: Global, unit: &Unit, start: usize) -> Result<UnitLayout, 
 {
     let order = file_order(alloc, &unit.additions)?;
     let mut coded = Coded {
-        shapes: IndexSet::with_capacity(alloc, order.len().min(USUAL_SHAPES))?,
+        shapes: Shapes::with_capacity(alloc, order.len().min(USUAL_SHAPES))?,
         codes: Vec::with_capacity(alloc, order.len())?,
         offsets: Vec::with_capacity(alloc, order.len())?,
         notes: Notes::new(alloc, order.len())?,
@@ -138,17 +138,18 @@ fn place_entries(
 ) -> Result<usize, WriteError>
     requires size { (size ≡ 4) ⊎ (size ≡ 8) }
     requires known { All (λ f. f.index < length additions.now) order.now }
-    requires shapes { map shape_view coded.old.shapes.keys ≡ [] }
+    requires shapes { map shape_view coded.old.shapes.shapes.items ≡ [] }
+    requires found { AreFound coded.old.shapes }
     requires codes { coded.old.codes.items ≡ [] }
     requires offsets { coded.old.offsets.items ≡ [] }
     requires notes { IsNoting additions.now coded.old.notes [] }
-    ensures shapes { OnOk result (map shape_view coded.new.shapes.keys ≡ first_uses [] (shapes_of (map (looked_up additions.now) order.now))) }
+    ensures shapes { OnOk result (map shape_view coded.new.shapes.shapes.items ≡ first_uses [] (shapes_of (map (looked_up additions.now) order.now))) }
     ensures codes { OnOk result (coded.new.codes.items ≡ codes_of (map (looked_up additions.now) order.now)) }
     ensures offsets { OnOk result ((o : Endian) → coded.new.offsets.items ≡ at_places (entry_bytes o size) (λ place x. place ∷ []) header_length (shaped (written_entries nowhere no_places no_lists (first_uses [] (shapes_of (map (looked_up additions.now) order.now))) (map (looked_up additions.now) order.now)))) }
     ensures notes { OnOk result (IsNoting additions.now coded.new.notes (map (looked_up additions.now) order.now)) }
     ensures end { (o : Endian) → AdvancesOrMemory result header_length (length (flat_map (entry_bytes o size) (shaped (written_entries nowhere no_places no_lists (first_uses [] (shapes_of (map (looked_up additions.now) order.now))) (map (looked_up additions.now) order.now))))) }
 {
-    let mut shape = Shape::new(alloc);
+    let mut words = Vec::new(alloc);
     // the places of the shapes that were last found for entries alike
     let mut guesses = [0; GUESSES];
     let mut place = HEADER_LENGTH;
@@ -161,7 +162,7 @@ fn place_entries(
         let alike = guess_place(tag, depth < next, attributes.len());
         let code = code_of_entry(
             &mut coded.shapes,
-            &mut shape,
+            &mut words,
             guesses[alike],
             tag,
             depth < next,

@@ -10,6 +10,7 @@ mod lists;
 mod notes;
 mod room;
 mod sections;
+mod shapes;
 mod short_lists;
 mod sizes;
 mod tables;

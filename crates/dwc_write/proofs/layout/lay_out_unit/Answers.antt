@@ -98,7 +98,7 @@ returns-in_err-length-clause-large c =
 pub put_table-requires : goal.put_table-requires
 put_table-requires c =
     let es = map (looked_up c.unit.inside.additions) c.deref.result.now in
-    rw (c.as_slice.ensures.keys, c.in_ok-length.ensures.shapes) (uses-plain [] es (All-nil IsPlainShape))
+    rw (c.as_slice.ensures, c.in_ok-length.ensures.shapes) (uses-plain [] es (All-nil IsPlainShape))
 
 pub returns-in_err-table-clause-fits : goal.returns-in_err-table-clause-fits
 returns-in_err-table-clause-fits c =

@@ -26,7 +26,7 @@ loop-i-preserved c =
     let place = get_or c.args.order.now c.loop-i.i first_place in
     let behind = map f (drop (suc c.loop-i.i) c.args.order.now) in
     let next : c.depth_of_first-next.result ≡ first_depth behind = rw (take_rest, add-one) at (c.depth_of_first-next.ensures c.args.additions.now) in
-    let grown : map shape_view c.code_of_entry.new.shapes.keys ≡ with_use (shape_of (f place) behind) (map shape_view c.loop-i.coded.shapes.keys) = rw (c.tag-tag.ensures, c.attributes-attributes.ensures, next) at c.in_ok-code.ensures.shapes in
+    let grown : map shape_view c.code_of_entry.new.shapes.shapes.items ≡ with_use (shape_of (f place) behind) (map shape_view c.loop-i.coded.shapes.shapes.items) = rw (c.tag-tag.ensures, c.attributes-attributes.ensures, next) at c.in_ok-code.ensures.shapes in
     let P : Endian → GivenEntry → Type 0 = λ o e. c.in_ok-place.place ≡ c.loop-i.place + length (entry_bytes o c.args.size (entry_with nowhere no_places no_lists c.in_ok-code.code e behind)) in
     rw add-one
     (record {
@@ -36,7 +36,8 @@ loop-i-preserved c =
           (step-more o c.args.size _ _ _ _ _ _ _ _ _ _ _ (f place) behind (rw (seen-more f c.args.order.now c.loop-i.i first_place c.loop-i-test.true) at (c.loop-i.invariant.step o))
           grown (rw (c.tag-tag.ensures, c.attributes-attributes.ensures, next) at c.in_ok-code.ensures.code)
           (rw (c.attributes-attributes.ensures, c.saturating_sub.ensures, next) at ((c.in_ok-place.ensures.end o).0)));
-      own = rw (grown) (own-more (shape_of (f place) behind) (map shape_view c.loop-i.coded.shapes.keys) c.loop-i.invariant.own);
+      own = rw (grown) (own-more (shape_of (f place) behind) (map shape_view c.loop-i.coded.shapes.shapes.items) c.loop-i.invariant.own);
+      found = c.in_ok-code.ensures.found;
       notes = noting-more c.args.additions.now c.loop-i.coded.notes es c.place_entry.new.notes place c.attributes-attributes.result.now behind (rw (seen-more f c.args.order.now c.loop-i.i first_place c.loop-i-test.true) at c.loop-i.invariant.notes) c.attributes-attributes.ensures (c.requires.known c.loop-i.i first_place c.loop-i-test.true) c.in_ok-place.ensures.ranged c.in_ok-place.ensures.located c.in_ok-place.ensures.texts c.in_ok-place.ensures.short;
     })
 

@@ -5,7 +5,7 @@ use Rattle.dwc_unit.specs.FileOrders.{looked_up}
 use Rattle.dwc_unit.specs.GivenUnits.{AreOwn, first_uses, no_places, shapes_of, written_entries}
 use Rattle.dwc_write.specs.Layouts.{codes_of}
 use Rattle.dwc_unit.specs.Lists.{no_lists, nowhere}
-use Rattle.dwc_write.specs.ShapeViews.{shape_view}
+use Rattle.dwc_write.specs.ShapeViews.{AreFound, shape_view}
 use Rattle.dwc_section.specs.Spelled.{at_places}
 use Rattle.dwc_unit.specs.SpelledUnits.{entry_bytes, header_length, shaped}
 use Rattle.dwc_section.specs.Writers.{most_bytes}
@@ -21,7 +21,8 @@ invariant-loop-i l =
     let all = shaped (written_entries nowhere no_places no_lists uses es) in
     record {
       short : l.place ≤ most_bytes;
-      step : (o : Endian) → IsStep o l.size (map shape_view l.coded.shapes.keys) uses l.coded.codes.items l.coded.offsets.items l.place (codes_of es) (at_places (entry_bytes o l.size) (λ place x. place ∷ []) header_length all) (header_length + length (flat_map (entry_bytes o l.size) all)) (map (looked_up l.additions) (drop l.i l.order));
-      own : AreOwn (map shape_view l.coded.shapes.keys);
+      step : (o : Endian) → IsStep o l.size (map shape_view l.coded.shapes.shapes.items) uses l.coded.codes.items l.coded.offsets.items l.place (codes_of es) (at_places (entry_bytes o l.size) (λ place x. place ∷ []) header_length all) (header_length + length (flat_map (entry_bytes o l.size) all)) (map (looked_up l.additions) (drop l.i l.order));
+      own : AreOwn (map shape_view l.coded.shapes.shapes.items);
+      found : AreFound l.coded.shapes;
       notes : IsNotingOn l.additions l.coded.notes es (map (looked_up l.additions) (drop l.i l.order));
     }

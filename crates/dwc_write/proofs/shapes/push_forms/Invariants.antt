@@ -1,6 +1,6 @@
 use Rattle.std.proofs.Common.{◌≡◌, ◌++◌, drop}
 use Rattle.dwc_unit.specs.GivenUnits.{forms_of}
-use Rattle.dwc_write.proofs.abbreviations.push_forms.Given as goal
+use Rattle.dwc_write.proofs.shapes.push_forms.Given as goal
 
 -- what is there, and what is left to append
 abbrev pub invariant-loop-attribute : goal.invariant-loop-attribute
