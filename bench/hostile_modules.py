@@ -7,13 +7,13 @@
 - nested_label: N attributes that ask for one label, whose N ranges lie one in another.
 - tails: N pointers that go by N constants into one chain of N constants.
 - tails_of_two: N pointers that go by N constants of N constants into one chain of N constants.
-- texts_of_close_hash: N names elsewhere, at offsets whose hashes stand close together in a table of N.
-- shapes_of_close_hash: N entries of N shapes, whose hashes stand close together in a table of N.
-- texts_of_one_slot: N names elsewhere, at offsets that share 64 slots of the table of known texts.
-
-For these the time still grows faster than what is read and written:
-
 - tails_into_a_ring: N pointers that go by N constants into one ring of N pointers, at one place.
+- tails_around_a_ring: N pointers that go by N constants of N constants into one ring of N pointers, at N places.
+- tails_around_two_rings: N references that go by N constants into two rings of N / 2 references, at N places.
+
+For this one the time still grows faster than what is read and written:
+
+- texts_of_one_hash: N names that the hash of the table of texts takes for one.
 """
 
 import itertools
@@ -143,7 +143,7 @@ def links(code, target, step, count):
 
 def with_types(count, types, pointers):
     """A module of N parameters that have N pointers as their types, and of the types that stand in front of the pointers."""
-    tags = [(3, 0x0F), (5, 0x26), (6, 0x05)]
+    tags = [(3, 0x0F), (5, 0x26), (6, 0x05), (7, 0x10)]
     typed = [declaration(code, tag, False, (0x49, 0x13)) for code, tag in tags]
     parameters = links(6, FIRST + len(types) + 5 * count + 1, 5, count)
     return with_entries([*typed, declaration(4, 0x24, False, (0x03, 0x08))], parameters + b"\0" + types + pointers + b"\0")
@@ -157,10 +157,16 @@ def tails_module(count, levels=1):
     return with_types(count, types, links(3, chain + len(types) - 5 * count, 5, count))
 
 
-def tails_into_a_ring_module(count):
-    ring = FIRST + 5 * count + 1
-    types = links(3, ring + 5, 5, count - 1) + links(3, ring, 0, 1) + links(5, ring, 0, count)
-    return with_types(count, types, links(3, ring + 5 * count, 5, count))
+def tails_into_rings_module(count, code=3, rings=1, step=0, levels=1):
+    """Tails of so many constants each into rings of types of a code, the first at one place and each other so many bytes behind the last."""
+    begin, length = FIRST + 5 * count + 1, count // rings
+    types = b""
+    for ring in range(begin, begin + 5 * length * rings, 5 * length):
+        types += links(code, ring + 5, 5, length - 1) + links(code, ring, 0, 1)
+    types += links(5, begin, step, count)
+    for _ in range(levels - 1):
+        types += links(5, begin + len(types) - 5 * count, 5, count)
+    return with_types(count, types, links(code, begin + len(types) - 5 * count, 5, count))
 
 
 def nested_label_module(count):
@@ -187,10 +193,9 @@ KINDS = {
     "texts_of_one_hash": lambda n: [texts_of_one_hash_module(n)],
     "tails": lambda n: [tails_module(n)],
     "tails_of_two": lambda n: [tails_module(n, 2)],
-    "tails_into_a_ring": lambda n: [tails_into_a_ring_module(n)],
-    "texts_of_close_hash": lambda n: [texts_of_close_hash_module(n)],
-    "texts_of_one_slot": lambda n: [texts_of_one_slot_module(n)],
-    "shapes_of_close_hash": lambda n: [shapes_of_close_hash_module(n)],
+    "tails_into_a_ring": lambda n: [tails_into_rings_module(n)],
+    "tails_around_a_ring": lambda n: [tails_into_rings_module(n, step=5, levels=2)],
+    "tails_around_two_rings": lambda n: [tails_into_rings_module(n, code=7, rings=2, step=5)],
     "nested_label": lambda n: [nested_label_module(n)],
     "long_type": lambda n: [long_type_module(n)],
 }
@@ -202,10 +207,9 @@ SIZES = {
     "texts_of_one_hash": [10000, 20000],
     "tails": [20000, 40000],
     "tails_of_two": [20000, 40000],
-    "tails_into_a_ring": [2500, 5000],
-    "texts_of_close_hash": [32000, 64000],
-    "texts_of_one_slot": [32000, 64000],
-    "shapes_of_close_hash": [32000, 64000],
+    "tails_into_a_ring": [20000, 40000],
+    "tails_around_a_ring": [20000, 40000],
+    "tails_around_two_rings": [20000, 40000],
     "nested_label": [10000, 20000],
     "long_type": [20000, 40000],
 }

@@ -15,8 +15,8 @@ use Rattle.dwc_rules.proofs.NameSteps.{if_unmet, name-next, name-start, name_fro
 use Rattle.dwc_source.specs.declared.error.CloneError.{CloneError}
 use Rattle.dwc_source.specs.declared.source.CloneSource.{CloneSource}
 use Rattle.dwc_types.specs.declared.type_entry.TypeEntry.{TypeEntry}
-use Rattle.dwc_types.specs.declared.type_name.DerivedType.{DerivedType}
-use Rattle.dwc_types.specs.declared.type_name.TypeStep.TheVariants.{Derived}
+use Rattle.dwc_types.specs.declared.known_type.DerivedType.{DerivedType}
+use Rattle.dwc_types.specs.declared.known_type.TypeStep.TheVariants.{Derived}
 use Rattle.dwc_types.specs.DerivedTypes.{met_in}
 use Rattle.dwc_types.specs.KnownNames.{IsFresh}
 use Rattle.dwc_types.specs.TypeReads.{EndsSo, IsRead}

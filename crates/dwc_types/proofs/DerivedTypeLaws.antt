@@ -6,7 +6,7 @@ use Rattle.std.proofs.lemmas.Bool.{eq-eqb, ne_eqb}
 use Rattle.std.proofs.lemmas.List.{length-append, length-set}
 use Rattle.std.proofs.lemmas.List.Sums.{sum_by-append, sum_by-set}
 use Rattle.std.proofs.lemmas.Option.{slice_get_within, get_or_from_slice_get}
-use Rattle.dwc_types.specs.declared.type_name.DerivedType.{DerivedType}
+use Rattle.dwc_types.specs.declared.known_type.DerivedType.{DerivedType}
 use Rattle.dwc_types.specs.DerivedTypes.{AddsUnmet, at_walk, is_at, is_found, met_in, room}
 
 -- ---- the type at a place

@@ -1,4 +1,4 @@
--- The name along a chain that comes to an end, and the chains that are made of others by a type more.
+-- The name along a chain that comes to an end or to a ring, and the chains that are made of others by a type more.
 use Rattle.std.proofs.Common.{◌≡◌, ℕ, suc, ◌≤◌, refl, sym, ap, ◌∙◌, arith, List, [], ◌∷◌, ◌++◌, length, Bool, true, false, is_some, Option, Some, None, Result, Ok, inl, inr}
 use Rattle.std.specs.Prelude.{◌==◌, ◌||◌, ◌≢◌, ◌⊎◌, if◌then◌else◌, option_map}
 use Rattle.std.specs.Option.{unwrap_or}
@@ -13,12 +13,15 @@ use Rattle.dwc_rules.proofs.NameSteps.{if_unmet, name-next, name-start, name_fro
 use Rattle.dwc_source.specs.declared.source.CloneSource.{CloneSource}
 use Rattle.dwc_source.specs.Sources.{IsEmitted, IsSource}
 use Rattle.dwc_types.specs.declared.type_entry.TypeEntry.{TypeEntry}
+use Rattle.dwc_types.specs.declared.known_type.TypeStep.TheVariants.{Derived}
 use Rattle.dwc_types.specs.KeyedTypes.{IsChain, IsNamedAlong, NamesNext, over_name}
-use Rattle.dwc_types.specs.TypeChains.{type_view}
+use Rattle.dwc_types.specs.TypeChains.{named_chain, type_view}
 use Rattle.dwc_types.specs.TypeReads.{EndsSo, IsRead}
-use Rattle.dwc_types.proofs.ChainWalkLaws.{with-parts}
-use Rattle.dwc_types.proofs.RingLaws.{offsets_of}
-use Rattle.dwc_types.proofs.TypeFoundLaws.{alike-name, has-type, no-type, one-entry}
+use Rattle.dwc_types.specs.TypeRings.{offsets_of, tags_of}
+use Rattle.dwc_types.specs.TypeSteps.{GivesStep}
+use Rattle.dwc_types.proofs.ChainWalkLaws.{with-chain, with-parts}
+use Rattle.dwc_types.proofs.RingLaws.{absent-outside, again-named}
+use Rattle.dwc_types.proofs.TypeFoundLaws.{HasType, alike-name, has-type, no-type, one-entry}
 use Rattle.dwc_types.proofs.TypeRingLaws.{type-alike}
 
 true_false : ◌≡◌ {A = Bool} true false → ⊥
@@ -152,31 +155,59 @@ module _ (c : CloneSource) (number : ℕ) (s : UnitSource) (source : IsSource c 
 
   -- An entry that is not the end of its own chain is named along it.
   pub named-along : (e : Placed) (offset : ℕ) (name : List ℕ) → IsEmitted c s e → e.entry.offset ≢ offset → IsNamedAlong c s e offset name → type_name s.texts s.entries e ≡ Ok name
-  named-along e offset name here apart a =
+  named-along e offset name here apart (inr r) =
+      again-named (IsEmitted c s) s.texts s.entries (type-alike c number s source) e r.first r.again r.others here r.leads r.links r.distinct r.met (λ same. apart (same ∙ r.last))
+      ∙ ap (λ n. Ok n) (with-chain (tags_of (r.first ∷ r.others)) unknown ∙ sym r.name_is)
+  named-along e offset name here apart (inl a) =
       name-start s.texts s.entries e
       ∙ chain-named e a.chain offset name (e.entry.offset ∷ []) [] here a.is (apart-one e.entry.offset a.chain (absent-later e a.chain offset name here a.is e a.chain offset name a.is (omega arith)))
       (λ z n there ends at. ap (λ b. b || false) (ne_eqb e.entry.offset z.entry.offset (λ same. apart (same ∙ at))))
 
 -- ---- chains
 
+over-chain : (tag there : ℕ) (tags : List ℕ) (name : List ℕ) → tag ≡ there → name ≡ named_chain tags unknown → over_name tag name ≡ named_chain (there ∷ tags) unknown
+over-chain tag there tags name same name_is =
+    ap (λ n. over_name tag n) name_is
+    ∙ ap (λ t. over_name t (named_chain tags unknown)) same
+    ∙ sym (with-parts there (named_chain tags unknown))
+    ∙ ap (with_tag there) (sym (with-chain tags unknown))
+    ∙ with-chain (there ∷ tags) unknown
+
 module _ (c : CloneSource) (s : UnitSource) where
   -- A type that ends a chain.
   pub names-end : (offset : ℕ) (name : List ℕ) (id : ℕ) → EndsSo c s offset name → NamesNext c s (Some (offset, id)) offset name
   names-end offset name id last number x source here type_is =
       let h = has-type c number s x (offset, id) source here type_is in
-      record { chain = []; is = inr (record { found = h.found; is = h.is; at = h.at; emitted = h.emitted; ends = last number h.found source h.emitted h.at }) }
+      inl (record { chain = []; is = inr (record { found = h.found; is = h.is; at = h.at; emitted = h.emitted; ends = last number h.found source h.emitted h.at }) })
 
   -- No further type.
   pub names-none : (offset : ℕ) → NamesNext c s None offset unknown
-  names-none offset number x source here type_is = record { chain = []; is = inl (no-type c number s x source here type_is, refl) }
+  names-none offset number x source here type_is = inl (record { chain = []; is = inl (no-type c number s x source here type_is, refl) })
 
-  -- A type more in front.
-  pub names-over : (at tag id but : ℕ) (next : Option TypeEntry) (name : List ℕ) → IsRead c s at tag next → NamesNext c s (option_map type_view next) but name → NamesNext c s (Some (at, id)) but (over_name tag name)
-  names-over at tag id but next name read named number x source here type_is =
+  -- A type more in front, which is not the one that is excepted.
+  over-along : (number at tag id but : ℕ) (next : Option TypeEntry) (x : Placed) (name : List ℕ) → at ≢ but → IsSource c number s → (h : HasType c s x at) → GivesStep c s h.found (Ok (Derived tag next)) → IsNamedAlong c s h.found but name → IsNamedAlong c s x but (over_name tag name)
+  over-along number at tag id but next x name apart source h g (inl a) = inl (record {
+    chain = h.found ∷ a.chain;
+    is = (record { is = h.is; emitted = h.emitted; unnamed = g.0; derived = g.2; inner = name; name_is = ap (λ t. over_name t name) g.1 }, a.is);
+  })
+  over-along number at tag id but next x name apart source h g (inr r) = inr (record {
+    first = h.found;
+    others = r.first ∷ r.others;
+    again = r.again;
+    leads = (h.is, r.leads);
+    links = (record { unnamed = g.0; derived = g.2; has = h.emitted }, r.links);
+    distinct = (absent-outside (IsEmitted c s) s.texts s.entries (type-alike c number s source) h.found r.first r.again r.first r.others h.emitted r.leads.0 r.leads.1 r.links r.distinct.0 (λ same. apart (sym h.at ∙ same ∙ r.last)), r.distinct);
+    met = ap (λ b. (h.found.entry.offset == r.again.entry.offset) || b) r.met ∙ or-true (h.found.entry.offset == r.again.entry.offset);
+    last = r.last;
+    name_is = over-chain tag h.found.entry.tag (tags_of (r.first ∷ r.others)) name g.1 r.name_is;
+  })
+    where
+      or-true : (b : Bool) → (b || true) ≡ true
+      or-true true = refl
+      or-true false = refl
+
+  pub names-over : (at tag id but : ℕ) (next : Option TypeEntry) (name : List ℕ) → at ≢ but → IsRead c s at tag next → NamesNext c s (option_map type_view next) but name → NamesNext c s (Some (at, id)) but (over_name tag name)
+  names-over at tag id but next name apart read named number x source here type_is =
       let h = has-type c number s x (at, id) source here type_is in
       let g = read number h.found source h.emitted h.at in
-      let a = named number h.found source h.emitted g.3 in
-      record {
-        chain = h.found ∷ a.chain;
-        is = (record { is = h.is; emitted = h.emitted; unnamed = g.0; derived = g.2; inner = name; name_is = ap (λ t. over_name t name) g.1 }, a.is);
-      }
+      over-along number at tag id but next x name apart source h g (named number h.found source h.emitted g.3)

@@ -11,9 +11,9 @@ use Rattle.dwc_rules.specs.Clones.{UnitSource}
 use Rattle.dwc_rules.specs.TypeNames.{name_of, unknown}
 use Rattle.dwc_source.specs.declared.source.CloneSource.{CloneSource}
 use Rattle.dwc_types.specs.declared.type_entry.TypeEntry.{TypeEntry}
-use Rattle.dwc_types.specs.declared.type_name.DerivedType.{DerivedType}
-use Rattle.dwc_types.specs.declared.type_name.KnownTypes.{KnownTypes}
-use Rattle.dwc_types.specs.declared.type_name.TypeStep.TheVariants.{Last}
+use Rattle.dwc_types.specs.declared.known_type.DerivedType.{DerivedType}
+use Rattle.dwc_types.specs.declared.known_type.KnownTypes.{KnownTypes}
+use Rattle.dwc_types.specs.declared.known_type.TypeStep.TheVariants.{Last}
 use Rattle.dwc_source.specs.Sources.{IsEmitted, IsSource}
 use Rattle.dwc_types.specs.TypeSteps.{ReadsStep}
 use Rattle.dwc_types.specs.DerivedTypes.{at_walk, end_of, is_at, is_found, met_in}

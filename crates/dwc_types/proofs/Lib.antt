@@ -13,3 +13,4 @@ pub mod WrapperTextLaws
 pub mod KeyedTypeLaws
 pub mod TypeKeyLaws
 pub mod KeyNameLaws
+pub mod RingKeyLaws

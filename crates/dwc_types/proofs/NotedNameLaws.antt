@@ -94,28 +94,6 @@ rings-known (Ok done) c s texts old new types pointers references keys knows rin
 }
 rings-known (Err e) c s texts old new types pointers references keys knows rings = tt
 
-pub pointers-known : {A E : Type 0} (r : Result A E) (c : CloneSource) (s : UnitSource) (texts : List (List ℕ)) (old new : TypeNames) → new.types ≡ old.types → new.references ≡ old.references → new.rings ≡ old.rings → new.keys ≡ old.keys → KnowsNames c s texts old → OnOk r (AreWrapperNames c s texts true new.pointers)
-    → OnOk r (KnowsNames c s texts new)
-pointers-known (Ok done) c s texts old new types references rings keys knows pointers = record {
-  types = subst (KnowsTypes c s) (sym types) knows.types;
-  pointers = pointers;
-  references = subst (AreWrapperNames c s texts false) (sym references) knows.references;
-  rings = subst (AreOwnNames c s texts) (sym rings) knows.rings;
-  keys = subst (KnowsKeys c s texts) (sym keys) knows.keys;
-}
-pointers-known (Err e) c s texts old new types references rings keys knows pointers = tt
-
-pub references-known : {A E : Type 0} (r : Result A E) (c : CloneSource) (s : UnitSource) (texts : List (List ℕ)) (old new : TypeNames) → new.types ≡ old.types → new.pointers ≡ old.pointers → new.rings ≡ old.rings → new.keys ≡ old.keys → KnowsNames c s texts old → OnOk r (AreWrapperNames c s texts false new.references)
-    → OnOk r (KnowsNames c s texts new)
-references-known (Ok done) c s texts old new types pointers rings keys knows references = record {
-  types = subst (KnowsTypes c s) (sym types) knows.types;
-  pointers = subst (AreWrapperNames c s texts true) (sym pointers) knows.pointers;
-  references = references;
-  rings = subst (AreOwnNames c s texts) (sym rings) knows.rings;
-  keys = subst (KnowsKeys c s texts) (sym keys) knows.keys;
-}
-references-known (Err e) c s texts old new types pointers rings keys knows references = tt
-
 -- ---- offsets
 
 -- What holds of an offset that is there.

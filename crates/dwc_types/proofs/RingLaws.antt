@@ -1,5 +1,5 @@
 -- Types that are derived from one another in a ring, and the names of those that go to them.
-use Rattle.std.proofs.Common.{◌≡◌, ℕ, suc, ◌≤◌, refl, sym, ap, subst, ◌∙◌, arith, List, [], ◌∷◌, ◌++◌, map, length, Bool, true, false, is_some, Option, Some, None, Result, Ok, append_assoc, append-nil}
+use Rattle.std.proofs.Common.{◌≡◌, ℕ, suc, ◌≤◌, refl, sym, ap, subst, ◌∙◌, arith, List, [], ◌∷◌, ◌++◌, length, Bool, true, false, is_some, Option, Some, None, Result, Ok, append_assoc, append-nil}
 use Rattle.std.specs.Prelude.{◌==◌, ◌||◌, ◌≢◌, if◌then◌else◌}
 use Rattle.std.specs.Option.{unwrap_or}
 use Rattle.std.proofs.lemmas.Bool.{eq-eqb, eqb-true, ne_eqb}
@@ -7,43 +7,18 @@ use Rattle.dwc_base.specs.Reading.{◌>>=◌}
 use Rattle.dwc_base.specs.Sections.{Fault}
 use Rattle.dwc_rules.specs.Kept.{Placed}
 use Rattle.dwc_dwarf.specs.Texts.{TextSource}
-use Rattle.dwc_rules.specs.TypeNames.{derived_name, name_of, type_name, type_of, unknown}
+use Rattle.dwc_rules.specs.TypeNames.{derived_name, type_name, type_of, unknown}
 use Rattle.dwc_dwarf.specs.Values.{is_one_of}
 use Rattle.dwc_rules.proofs.NameSteps.{if_unmet, name-next, name-start, name_from, name_next, with_tags}
+use Rattle.dwc_types.specs.TypeRings.{AreLinks, Distinct, IsLink, Leads, last_at, offsets_of, tags_of}
 use Rattle.dwc_types.proofs.ChainWalkLaws.{turned}
 
 -- ---- chains
-
-abbrev pub offsets_of : List Placed → List ℕ
-offsets_of es = map (λ e. e.entry.offset) es
-
-abbrev pub tags_of : List Placed → List ℕ
-tags_of es = map (λ e. e.entry.tag) es
-
--- Each of some entries is the type of the one before it, the first that of an entry.
-abbrev pub Leads : List Placed → Placed → List Placed → Type 0
-Leads es x [] = Unit {0}
-Leads es x (y ∷ ys) = (type_of es x ≡ Some y) × Leads es y ys
-
--- A type has no name and is derived from another, and has a property.
-pub record IsLink (Has : Placed → Type 0) (texts : TextSource) (e : Placed) : Type 0 where
-  pub unnamed : name_of texts e ≡ Ok None
-  pub derived : is_some (derived_name e.entry.tag) ≡ true
-  pub has : Has e
-
-abbrev pub AreLinks : (Placed → Type 0) → TextSource → List Placed → Type 0
-AreLinks Has texts [] = Unit {0}
-AreLinks Has texts (y ∷ ys) = IsLink Has texts y × AreLinks Has texts ys
 
 -- None is at one of some offsets.
 abbrev Apart : List ℕ → List Placed → Type 0
 Apart met [] = Unit {0}
 Apart met (y ∷ ys) = (is_one_of met y.entry.offset ≡ false) × Apart met ys
-
--- No two are at one offset.
-abbrev pub Distinct : List Placed → Type 0
-Distinct [] = Unit {0}
-Distinct (y ∷ ys) = (is_one_of (offsets_of ys) y.entry.offset ≡ false) × Distinct ys
 
 neither : (a b : Bool) → (a || b) ≡ false → (a ≡ false) × (b ≡ false)
 neither false b is = (refl, is)
@@ -156,11 +131,6 @@ module _ (Has : Placed → Type 0) (texts : TextSource) (es : List Placed) (alik
       let later = not-later y z ys none in
       (absent-later y z ys y ys links.0.has leads.1 later leads.1 later links.1 (omega arith), distinct-chain y z ys leads.1 later links.1)
 
--- the offset of the last of some entries, or else another
-abbrev pub last_at : ℕ → List Placed → ℕ
-last_at offset [] = offset
-last_at offset (y ∷ ys) = last_at y.entry.offset ys
-
 module _ (Has : Placed → Type 0) (texts : TextSource) (es : List Placed) (alike : (x w : Placed) → Has x → Has w → x.entry.offset ≡ w.entry.offset → type_of es x ≡ type_of es w) where
   -- An entry is none of those on the way to one at the offset of its type, where it is not the last of them.
   pub absent-outside : (o next x y : Placed) (ys : List Placed) → Has o → type_of es o ≡ Some next → Leads es y (ys ++ x ∷ []) → AreLinks Has texts (y ∷ ys) → is_one_of (offsets_of ys) next.entry.offset ≡ false → o.entry.offset ≢ last_at y.entry.offset ys → is_one_of (offsets_of (y ∷ ys)) o.entry.offset ≡ false
@@ -170,6 +140,19 @@ module _ (Has : Placed → Type 0) (texts : TextSource) (es : List Placed) (alik
       go : (b : Bool) → (y.entry.offset == o.entry.offset) ≡ b → is_one_of (offsets_of (w ∷ ws)) o.entry.offset ≡ false → (b || is_one_of (offsets_of (w ∷ ws)) o.entry.offset) ≡ false
       go true same rest = not-first w next ws (some-is next w (sym is ∙ sym (alike y o links.0.has has (eqb-true y.entry.offset o.entry.offset same)) ∙ leads.0)) none
       go false other rest = rest
+
+  -- The name of the type of an entry along types that come to one of them again, the last of which it is not, has the tags of all.
+  pub again-named : (o first again : Placed) (others : List Placed) → Has o → Leads es o ((first ∷ others) ++ again ∷ []) → AreLinks Has texts (first ∷ others) → Distinct (first ∷ others) → is_one_of (offsets_of (first ∷ others)) again.entry.offset ≡ true → o.entry.offset ≢ last_at first.entry.offset others
+      → type_name texts es o ≡ Ok (with_tags (tags_of (first ∷ others)) unknown)
+  again-named o first again others has leads links distinct met apart =
+      let outside = absent-outside o first again first others has leads.0 leads.1 links distinct.0 apart in
+      name-start texts es o
+      ∙ chain-ends texts es Has (first ∷ others) o again (o.entry.offset ∷ []) [] leads links (apart-more [] o (first ∷ others) outside (apart-none (first ∷ others))) distinct
+      (ap (λ b. ((o.entry.offset == again.entry.offset) || false) || b) met ∙ or-true ((o.entry.offset == again.entry.offset) || false))
+    where
+      or-true : (b : Bool) → (b || true) ≡ true
+      or-true true = refl
+      or-true false = refl
 
 -- ---- rings
 
@@ -226,24 +209,6 @@ module _ (Has : Placed → Type 0) (texts : TextSource) (es : List Placed) where
       name-start texts es x
       ∙ chain-ends texts es Has xs x x (x.entry.offset ∷ []) [] ring.closed ring.links.1 (apart-more [] x xs ring.distinct.0 (apart-none xs)) ring.distinct.1
       (ap (λ b. (b || false) || is_one_of (offsets_of xs) x.entry.offset) (eq-eqb x.entry.offset x.entry.offset refl))
-
-  -- That of another entry, whose type is at the offset of one of them and has the same type, has the tags of all.
-  pub ring-named-outside : (o next x : Placed) (xs : List Placed) → type_of es o ≡ Some next → IsLink Has texts next → next.entry.offset ≡ x.entry.offset → type_of es next ≡ type_of es x → is_one_of (offsets_of (x ∷ xs)) o.entry.offset ≡ false → IsRing Has texts es (x ∷ xs)
-      → type_name texts es o ≡ Ok (with_tags (tags_of (next ∷ xs)) unknown)
-  ring-named-outside o next x xs is link at same outside ring =
-      name-start texts es o
-      ∙ chain-ends texts es Has (next ∷ xs) o x (o.entry.offset ∷ []) [] (is, from-next (xs ++ x ∷ []) ring.closed) (link, ring.links.1)
-      (apart-more [] o (next ∷ xs) (ap (λ n. is_one_of (n ∷ offsets_of xs) o.entry.offset) at ∙ outside) (apart-none (next ∷ xs)))
-      (ap (is_one_of (offsets_of xs)) at ∙ ring.distinct.0, ring.distinct.1)
-      (ap (λ b. ((o.entry.offset == x.entry.offset) || false) || (b || is_one_of (offsets_of xs) x.entry.offset)) (eq-eqb next.entry.offset x.entry.offset at) ∙ or-true ((o.entry.offset == x.entry.offset) || false))
-    where
-      from-next : (ys : List Placed) → Leads es x ys → Leads es next ys
-      from-next [] leads = tt
-      from-next (y ∷ ys) leads = (same ∙ leads.0, leads.1)
-
-      or-true : (b : Bool) → (b || true) ≡ true
-      or-true true = refl
-      or-true false = refl
 
   -- A chain from an entry back to it is a ring.
   pub ring-closed : ((x w : Placed) → Has x → Has w → x.entry.offset ≡ w.entry.offset → type_of es x ≡ type_of es w) → (x : Placed) (xs : List Placed) → Leads es x (xs ++ x ∷ []) → is_one_of (offsets_of xs) x.entry.offset ≡ false → AreLinks Has texts (x ∷ xs) → IsRing Has texts es (x ∷ xs)

@@ -1,11 +1,12 @@
 -- The names of the types of a ring, put together from the tags of the others, are the same text where the tags are the same.
-use Rattle.std.proofs.Common.{◌≡◌, ℕ, refl, sym, ap, ◌∙◌, List, [], ◌∷◌, ◌++◌, map, get_or, drop, Bool, true, false, append_assoc, append-nil}
+use Rattle.std.proofs.Common.{◌≡◌, ℕ, suc, ◌+◌, refl, sym, ap, ◌∙◌, arith, List, [], ◌∷◌, ◌++◌, map, get_or, drop, length, Bool, true, false, append_assoc, append-nil}
 use Rattle.std.specs.Prelude.{◌==◌, if◌then◌else◌, codes}
 use Rattle.std.proofs.lemmas.Bool.{eqb-true}
 use Rattle.dwc_base.specs.declared.constants.TheConstants.{DW_TAG_const_type}
-use Rattle.dwc_types.specs.declared.type_name.DerivedType.{DerivedType}
+use Rattle.dwc_types.specs.declared.known_type.DerivedType.{DerivedType}
 use Rattle.dwc_types.specs.TypeChains.{behind, behind_name, in_front, named_chain}
-use Rattle.dwc_types.specs.TypeRings.{spelt_of}
+use Rattle.dwc_types.specs.KeyedTypes.{consts_front}
+use Rattle.dwc_types.specs.TypeRings.{consts_of, spelt_of}
 
 abbrev pub tags_in : List DerivedType → List ℕ
 tags_in ts = map (λ t. t.tag) ts
@@ -76,9 +77,28 @@ turned-named h t rest front left is first other same last =
     let behinds : behind (tags_in (left ++ front)) ≡ behind (tags_in rest) = behind-spelt (left ++ front) ∙ ap (λ ns. behind (drop 1 ns)) tags ∙ sym (behind-spelt rest) in
     (ap (λ ns. get_or ns 0 0) tags, ap (λ xs. xs ++ (last ++ behind (tags_in (left ++ front)))) fronts ∙ ap (λ xs. in_front (tags_in rest) ++ (last ++ xs)) behinds)
 
--- The types from one on and those from another on tell the same name, where the tags are the same.
-pub turned-named-all : (t : DerivedType) (ring front left : List DerivedType) → ring ≡ front ++ t ∷ left → spelt_of (t ∷ (left ++ front)) ≡ spelt_of ring → (last : List ℕ) → named_chain (tags_in (t ∷ (left ++ front))) last ≡ named_chain (tags_in ring) last
-turned-named-all t ring front left is same last =
-    let fronts : in_front (tags_in (t ∷ (left ++ front))) ≡ in_front (tags_in ring) = front-turned (t ∷ left) front ∙ ap (λ ts. in_front (tags_in ts)) (sym is) in
-    let behinds : behind (tags_in (t ∷ (left ++ front))) ≡ behind (tags_in ring) = behind-spelt (t ∷ (left ++ front)) ∙ ap behind same ∙ sym (behind-spelt ring) in
-    ap (λ xs. xs ++ (last ++ behind (tags_in (t ∷ (left ++ front))))) fronts ∙ ap (λ xs. in_front (tags_in ring) ++ (last ++ xs)) behinds
+-- ---- constants, and the other tags
+
+consts-front : (ts : List DerivedType) → in_front (tags_in ts) ≡ consts_front (consts_of ts)
+consts-front [] = refl
+consts-front (t ∷ ts) = go (t.tag == DW_TAG_const_type) (consts-front ts)
+  where
+    go : (b : Bool) → in_front (tags_in ts) ≡ consts_front (consts_of ts) → front_if b ++ in_front (tags_in ts) ≡ consts_front (if b then suc (consts_of ts) else consts_of ts)
+    go true same = ap (λ zs. codes "const " ++ zs) same
+    go false same = same
+
+-- Each type is a constant, or has a tag that is spelt.
+pub consts-and-spelt : (ts : List DerivedType) → length ts ≡ consts_of ts + length (spelt_of ts)
+consts-and-spelt [] = refl
+consts-and-spelt (t ∷ ts) = go (t.tag == DW_TAG_const_type) (consts-and-spelt ts)
+  where
+    go : (b : Bool) → length ts ≡ consts_of ts + length (spelt_of ts) → suc (length ts) ≡ (if b then suc (consts_of ts) else consts_of ts) + length (if b then spelt_of ts else t.tag ∷ spelt_of ts)
+    go true same = omega (arith, same)
+    go false same = omega (arith, same)
+
+-- The name by the types from one on has the constants of all of them in front, and behind it the other tags from that one on.
+pub named-around : (t : DerivedType) (ring front left : List DerivedType) → ring ≡ front ++ t ∷ left → (last : List ℕ) → named_chain (tags_in (t ∷ (left ++ front))) last ≡ consts_front (consts_of ring) ++ (last ++ behind (spelt_of (t ∷ (left ++ front))))
+named-around t ring front left is last =
+    let all = t ∷ (left ++ front) in
+    let fronts : in_front (tags_in all) ≡ consts_front (consts_of ring) = front-turned (t ∷ left) front ∙ ap (λ ts. in_front (tags_in ts)) (sym is) ∙ consts-front ring in
+    ap (λ xs. xs ++ (last ++ behind (tags_in all))) fronts ∙ ap (λ xs. consts_front (consts_of ring) ++ (last ++ xs)) (behind-spelt all)

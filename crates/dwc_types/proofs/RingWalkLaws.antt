@@ -1,11 +1,11 @@
 -- Walks along the types of a ring: over those that are kept, and over the tags of those that were read.
-use Rattle.std.proofs.Common.{◌≡◌, ℕ, ◌+◌, ◌-◌, ◌<◌, ◌≤◌, refl, sym, ap, subst, ◌∙◌, arith, List, [], ◌∷◌, ◌++◌, take, drop, get_or, length, Bool, true, false, append_assoc, append-nil}
+use Rattle.std.proofs.Common.{◌≡◌, ℕ, ◌+◌, ◌<◌, ◌≤◌, refl, sym, ap, subst, ◌∙◌, arith, List, [], ◌∷◌, ◌++◌, take, drop, get_or, length, Bool, true, false, append_assoc, append-nil}
 use Rattle.std.specs.Prelude.{◌==◌, ◌≢◌, if◌then◌else◌}
 use Rattle.std.proofs.lemmas.Bool.{eqb-true}
 use Rattle.std.proofs.lemmas.List.{drop_at, drop_more, length-append, take-append-drop, take_at, take_more}
 use Rattle.dwc_base.specs.declared.constants.TheConstants.{DW_TAG_const_type}
-use Rattle.dwc_types.specs.declared.type_name.DerivedType.{DerivedType}
-use Rattle.dwc_types.specs.declared.type_name.KnownTypes.{KnownTypes}
+use Rattle.dwc_types.specs.declared.known_type.DerivedType.{DerivedType}
+use Rattle.dwc_types.specs.declared.known_type.KnownTypes.{KnownTypes}
 use Rattle.dwc_types.specs.TypeRings.{IsPath, IsStep, IsTurn, passed_with, spelt_of}
 
 -- ---- types that are kept
@@ -18,7 +18,7 @@ path-more types own from at (u ∷ ts) t path step apart = (path.0, path.1, path
 
 -- ---- turns
 
-spelt-append : (xs ys : List DerivedType) → spelt_of (xs ++ ys) ≡ spelt_of xs ++ spelt_of ys
+pub spelt-append : (xs ys : List DerivedType) → spelt_of (xs ++ ys) ≡ spelt_of xs ++ spelt_of ys
 spelt-append [] ys = refl
 spelt-append (x ∷ xs) ys = go (x.tag == DW_TAG_const_type) (spelt-append xs ys)
   where
@@ -116,19 +116,3 @@ module _ (ring : List DerivedType) (i : ℕ) (d : DerivedType) (inside : i < len
 
   pub around-here : ring ≡ take i ring ++ here ∷ drop (i + 1) ring
   around-here = sym (take-append-drop i ring) ∙ ap (λ xs. take i ring ++ xs) (drop_more ring i d inside)
-
--- ---- a type, and the one in front of it
-
-front-two : (ring : List DerivedType) (i : ℕ) (b : DerivedType) → 1 ≤ i → i < length ring → take i ring ≡ take (i - 1) ring ++ get_or ring (i - 1) b ∷ []
-front-two ring i b above inside =
-    let place : i ≡ (i - 1) + 1 = omega (arith, above) in
-    let within : i - 1 < length ring = omega (arith, inside) in
-    ap (λ n. take n ring) place ∙ take_more ring (i - 1) b within
-
-pub around-two : (ring : List DerivedType) (i : ℕ) (b d : DerivedType) → 1 ≤ i → i < length ring → ring ≡ (take (i - 1) ring ++ get_or ring (i - 1) b ∷ []) ++ get_or ring i d ∷ drop (i + 1) ring
-around-two ring i b d above inside = around-here ring i d inside ∙ ap (λ xs. xs ++ get_or ring i d ∷ drop (i + 1) ring) (front-two ring i b above inside)
-
-pub turned-two : (ring : List DerivedType) (i : ℕ) (b d : DerivedType) → 1 ≤ i → i < length ring → (turn passed : ℕ) → IsTurn turn (spelt_of ring) → (passed == turn) ≡ true → IsTurning ring i passed
-    → spelt_of (get_or ring i d ∷ (drop (i + 1) ring ++ (take (i - 1) ring ++ get_or ring (i - 1) b ∷ []))) ≡ spelt_of ring
-turned-two ring i b d above inside turn passed is full t =
-    ap (λ xs. spelt_of (get_or ring i d ∷ (drop (i + 1) ring ++ xs))) (sym (front-two ring i b above inside)) ∙ turned-tags ring i d inside turn passed is full t

@@ -1,13 +1,13 @@
 -- What is known by the keys of types.
-use Rattle.std.proofs.Common.{◌≡◌, ℕ, suc, ◌+◌, ◌<◌, ◌≤◌, refl, sym, ap, subst, ◌∙◌, arith, List, [], ◌∷◌, ◌++◌, Bool, true, false, Option, Some, None, Result, Ok, Err, append_assoc, append-nil}
-use Rattle.std.specs.Prelude.{◌==◌, T, cond, codes, if◌then◌else◌, option_map, IfSome, IfOk}
+use Rattle.std.proofs.Common.{◌≡◌, ℕ, suc, ◌+◌, ◌-◌, ◌<◌, ◌≤◌, refl, sym, ap, subst, ◌∙◌, arith, List, [], ◌∷◌, ◌++◌, Bool, true, false, Option, Some, None, Result, Ok, Err, append_assoc, append-nil}
+use Rattle.std.specs.Prelude.{◌==◌, ◌≢◌, T, cond, codes, if◌then◌else◌, nat_lt, option_map, IfSome, IfOk}
 use Rattle.std.specs.declared.cmp.Ordering.{Ordering}
 use Rattle.std.specs.declared.cmp.Ordering.TheVariants.{Less, Equal, Greater}
 use Rattle.std.specs.Ordering.{is_eq, nat_cmp, ordering_then}
 use Rattle.std.specs.BTreeMap.{BTreeMap, get}
 use Rattle.std.specs.FinMap.{IsAntisymmetric, nat_cmp-IsAntisymmetric}
 use Rattle.std.specs.Map.{lookup}
-use Rattle.std.proofs.lemmas.Bool.{eq-eqb, ne_eqb}
+use Rattle.std.proofs.lemmas.Bool.{le-ltb, lt-ltb}
 use Rattle.dwc_base.specs.declared.constants.TheConstants.{DW_TAG_const_type, DW_TAG_pointer_type}
 use Rattle.dwc_base.specs.SortedEntries.{pair_cmp}
 use Rattle.dwc_rules.specs.Clones.{UnitSource}
@@ -19,10 +19,10 @@ use Rattle.dwc_source.specs.KnownTexts.{IsNumbered}
 use Rattle.dwc_source.specs.MadeValues.{Grows}
 use Rattle.dwc_source.proofs.KnownLaws.{numbered-grown}
 use Rattle.dwc_types.specs.declared.type_entry.TypeEntry.{TypeEntry}
-use Rattle.dwc_types.specs.declared.type_name.DerivedType.{DerivedType}
+use Rattle.dwc_types.specs.declared.known_type.DerivedType.{DerivedType}
 use Rattle.dwc_types.specs.declared.type_key.TypeKey.{TypeKey}
 use Rattle.dwc_types.specs.declared.type_key.TypeKeys.{TypeKeys}
-use Rattle.dwc_types.specs.KeyedTypes.{AreKeyNames, EndsWayAt, EndsWayKeyed, HasCore, HasText, IsBehind, IsKeyBehind, IsKeyed, IsKeyName, IsKeyOf, IsWay, KnowsKeys, NamesNext, consts_front, key_text, over_name}
+use Rattle.dwc_types.specs.KeyedTypes.{AreKeyNames, EndsWayAt, EndsWayKeyed, HasCore, HasCores, HasText, IsBehind, IsKeyBehind, IsKeyed, IsKeyName, IsKeyOf, IsWay, KnowsKeys, NamesNext, consts_front, key_text, over_name}
 use Rattle.dwc_types.specs.TypeChains.{behind_name, type_view}
 use Rattle.dwc_types.specs.TypeReads.{EndsSo, IsRead}
 use Rattle.dwc_types.proofs.KeyedTypeLaws.{names-end, names-none, names-over}
@@ -79,11 +79,11 @@ module _ (c : CloneSource) (s : UnitSource) (texts : List (List ℕ)) (text more
   key-names-grown : (pointer : Bool) (names : BTreeMap (ℕ × ℕ) StringId) → AreKeyNames texts text count pointer names → AreKeyNames texts more other pointer names
   key-names-grown pointer names are q = if-so (λ id. IsKeyName texts text count pointer q.0 q.1 id) (λ id. IsKeyName texts more other pointer q.0 q.1 id) (get pair_cmp names q) (λ id k. name-grown pointer q.0 q.1 id k) (are q)
 
--- ---- a core more
+-- ---- cores that are more
 
-module _ (c : CloneSource) (s : UnitSource) (texts : List (List ℕ)) (old new : TypeKeys) (types : new.types ≡ old.types) (cores : new.cores ≡ old.cores) (count : new.count ≡ old.count + 1) (pointers : new.pointers ≡ old.pointers) (references : new.references ≡ old.references) where
-  pub core-fresh : (known : KnowsKeys c s texts old) (name : List ℕ) → HasCore c s texts known.text old.count new old.count name
-  core-fresh known name = record {
+module _ (c : CloneSource) (s : UnitSource) (texts : List (List ℕ)) (old new : TypeKeys) (many : ℕ) (types : new.types ≡ old.types) (cores : new.cores ≡ old.cores) (count : new.count ≡ old.count + many) (pointers : new.pointers ≡ old.pointers) (references : new.references ≡ old.references) where
+  pub cores-fresh : (known : KnowsKeys c s texts old) (name : ℕ → List ℕ) → HasCores c s texts known.text old.count new old.count many name
+  cores-fresh known name = record {
     knows = record {
       text = more;
       one = omega (arith, known.one, count);
@@ -95,20 +95,34 @@ module _ (c : CloneSource) (s : UnitSource) (texts : List (List ℕ)) (old new :
       pointers = subst (AreKeyNames texts more new.count true) (sym pointers) (key-names-grown c s texts known.text more old.count new.count same grown true old.pointers known.pointers);
       references = subst (AreKeyNames texts more new.count false) (sym references) (key-names-grown c s texts known.text more old.count new.count same grown false old.references known.references);
     };
-    below = omega (arith, count);
-    is = ap (λ b. if b then name else known.text old.count) (eq-eqb old.count old.count refl);
+    within = omega (arith, count);
+    is = λ j below. ap (λ b. if b then known.text (old.count + j) else name ((old.count + j) - old.count)) (le-ltb (old.count + j) old.count (omega arith)) ∙ ap name (shift old.count j);
     grown = grown;
     same = same;
   }
     where
       more : ℕ → List ℕ
-      more n = if n == old.count then name else known.text n
+      more n = if nat_lt n old.count then known.text n else name (n - old.count)
+
+      shift : (a j : ℕ) → (a + j) - a ≡ j
+      shift a j = omega arith
 
       same : (n : ℕ) → n < old.count → more n ≡ known.text n
-      same n below = ap (λ b. if b then name else known.text n) (ne_eqb n old.count (λ is. omega (arith, below, is)))
+      same n below = ap (λ b. if b then known.text n else name (n - old.count)) (lt-ltb n old.count below)
 
       grown : old.count ≤ new.count
       grown = omega (arith, count)
+
+-- One core.
+one-core : (c : CloneSource) (s : UnitSource) (texts : List (List ℕ)) (before : ℕ → List ℕ) (count : ℕ) (keys : TypeKeys) (core : ℕ) (name : List ℕ) → HasCores c s texts before count keys core 1 (λ j. name) → HasCore c s texts before count keys core name
+one-core c s texts before count keys core name h = record { knows = h.knows; below = omega (arith, h.within); is = ap h.knows.text none ∙ h.is 0 (omega arith); grown = h.grown; same = h.same }
+  where
+    none : core ≡ core + 0
+    none = omega arith
+
+pub one-core-answer : {E : Type 0} (c : CloneSource) (s : UnitSource) (texts : List (List ℕ)) (before : ℕ → List ℕ) (count : ℕ) (keys : TypeKeys) (name : List ℕ) (r : Result ℕ E) → IfOk r (λ first. HasCores c s texts before count keys first 1 (λ j. name)) → IfOk r (λ core. HasCore c s texts before count keys core name)
+one-core-answer c s texts before count keys name (Ok core) h = one-core c s texts before count keys core name h
+one-core-answer c s texts before count keys name (Err e) h = tt
 
 -- ---- keys that are kept
 
@@ -147,12 +161,25 @@ module _ (c : CloneSource) (s : UnitSource) (texts : List (List ℕ)) (old new :
         next at
 
     -- A type that is derived from another.
-    pub over-kept : (tag but : ℕ) (base : Option TypeEntry) (name : List ℕ) → key.but ≡ but → IsRead c s offset tag base → NamesNext c s (option_map type_view base) but name → HasText c s texts old key (over_name tag name) → (next : TypeEntry) → next.offset ≡ offset → IsKeyOf c s texts new (Some next) key
-    over-kept tag but base name but_is read named h next at =
+    pub over-kept : (tag but : ℕ) (base : Option TypeEntry) (name : List ℕ) → offset ≢ but → key.but ≡ but → IsRead c s offset tag base → NamesNext c s (option_map type_view base) but name → HasText c s texts old key (over_name tag name) → (next : TypeEntry) → next.offset ≡ offset → IsKeyOf c s texts new (Some next) key
+    over-kept tag but base name apart but_is read named h next at =
         key-of h.knows h.below
         (λ id. subst (λ b. NamesNext c s (Some (offset, id)) b (key_text h.knows.text key)) (sym but_is)
-        (subst (NamesNext c s (Some (offset, id)) but) (sym h.is) (names-over c s offset tag id but base name read named)))
+        (subst (NamesNext c s (Some (offset, id)) but) (sym h.is) (names-over c s offset tag id but base name apart read named)))
         next at
+
+    -- A type whose core is one of some that are new.
+    pub core-type-kept : (before : ℕ → List ℕ) (least first many j : ℕ) (name : ℕ → List ℕ) → HasCores c s texts before least old first many name → j < many → key.core ≡ first + j → ((id : ℕ) → NamesNext c s (Some (offset, id)) key.but (consts_front key.consts ++ name j)) → HasCores c s texts before least new first many name
+    unfolding key-kept
+    core-type-kept before least first many j name h low core named =
+        let below : key.core < old.count = omega (arith, core, low, h.within) in
+        record {
+          knows = key-kept h.knows (is-keyed h.knows below (λ id. subst (λ t. NamesNext c s (Some (offset, id)) key.but (consts_front key.consts ++ t)) (sym (h.is j low) ∙ ap h.knows.text (sym core)) (named id)));
+          within = subst (λ n. first + many ≤ n) (sym count) h.within;
+          is = h.is;
+          grown = subst (λ n. least ≤ n) (sym count) h.grown;
+          same = h.same;
+        }
 
   -- A core is noted.
   pub core-kept : (core tag found : ℕ) → ((q : ℕ × ℕ) → get pair_cmp new.cores q ≡ cond (is_eq (pair_cmp (core, tag) q)) (Some found) (get pair_cmp old.cores q)) → new.types ≡ old.types → new.pointers ≡ old.pointers → new.references ≡ old.references
@@ -319,20 +346,6 @@ way-last c s from [] t next way = record { type = way.0.type; way = way.0.is; at
 way-last c s from (u ∷ ts) t next way =
     let l = way-last c s u.next ts t next way.1 in
     record { type = l.type; way = (way.0, l.way); at = l.at; read = l.read; next_is = l.next_is }
-
--- ---- types without a key
-
--- What is known does not hang on them.
-pub keys-lost : (c : CloneSource) (s : UnitSource) (texts : List (List ℕ)) (old new : TypeKeys) → new.types ≡ old.types → new.cores ≡ old.cores → new.count ≡ old.count → new.pointers ≡ old.pointers → new.references ≡ old.references → KnowsKeys c s texts old → KnowsKeys c s texts new
-keys-lost c s texts old new types cores count pointers references known = record {
-  text = known.text;
-  one = subst (λ n. 0 < n) (sym count) known.one;
-  first = known.first;
-  types = λ q. subst (λ m. IfSome (get nat_cmp m q) (λ k. IsKeyed c s known.text new.count q k)) (sym types) (subst (λ n. IfSome (get nat_cmp old.types q) (λ k. IsKeyed c s known.text n q k)) (sym count) (known.types q));
-  cores = λ q. subst (λ m. IfSome (get pair_cmp m q) (λ found. IsBehind known.text new.count q.0 q.1 found)) (sym cores) (subst (λ n. IfSome (get pair_cmp old.cores q) (λ found. IsBehind known.text n q.0 q.1 found)) (sym count) (known.cores q));
-  pointers = subst (AreKeyNames texts known.text new.count true) (sym pointers) (subst (λ n. AreKeyNames texts known.text n true old.pointers) (sym count) known.pointers);
-  references = subst (AreKeyNames texts known.text new.count false) (sym references) (subst (λ n. AreKeyNames texts known.text n false old.references) (sym count) known.references);
-}
 
 -- No keys are kept.
 pub no-keys : (c : CloneSource) (s : UnitSource) (texts : List (List ℕ)) (keys : TypeKeys) → keys.count ≡ 1 → keys.types.entries ≡ [] → keys.cores.entries ≡ [] → keys.pointers.entries ≡ [] → keys.references.entries ≡ [] → KnowsKeys c s texts keys

@@ -1,9 +1,9 @@
 -- Rings of types that were read, and the names of their types.
-use Rattle.std.proofs.Common.{◌≡◌, ℕ, ◌+◌, refl, sym, ap, subst, ◌∙◌, List, [], ◌∷◌, ◌++◌, append_assoc, false, true, is_some, Option, Some, None, Ok, inl, inr}
-use Rattle.std.specs.Prelude.{◌==◌, ◌||◌, ◌&&◌, ◌≢◌, codes, if◌then◌else◌, option_and_then, option_map}
+use Rattle.std.proofs.Common.{◌≡◌, ℕ, ◌+◌, refl, sym, ap, subst, ◌∙◌, List, [], ◌∷◌, ◌++◌, drop, get_or, false, is_some, Option, Some, None, Ok, inl, inr}
+use Rattle.std.specs.Prelude.{◌==◌, ◌||◌, ◌&&◌, option_map}
 use Rattle.std.specs.List.{find}
-use Rattle.std.proofs.lemmas.Bool.{ne_eqb}
-use Rattle.dwc_base.specs.declared.constants.TheConstants.{DW_AT_type, DW_TAG_const_type, DW_TAG_pointer_type}
+use Rattle.std.proofs.lemmas.Bool.{eq-eqb, ne_eqb}
+use Rattle.dwc_base.specs.declared.constants.TheConstants.{DW_AT_type, DW_TAG_const_type}
 use Rattle.dwc_dwarf.specs.Entries.{attribute}
 use Rattle.dwc_rules.specs.Kept.{Placed}
 use Rattle.dwc_rules.specs.Clones.{UnitSource}
@@ -14,20 +14,19 @@ use Rattle.dwc_rules.specs.Wrappers.{wrapper_name}
 use Rattle.dwc_rules.proofs.NameSteps.{with_tags}
 use Rattle.dwc_unit.specs.declared.strings.StringId.{StringId}
 use Rattle.dwc_source.specs.declared.source.CloneSource.{CloneSource}
-use Rattle.dwc_types.specs.declared.type_entry.TypeEntry.{TypeEntry}
-use Rattle.dwc_types.specs.declared.type_name.DerivedType.{DerivedType}
-use Rattle.dwc_types.specs.declared.type_name.KnownTypes.{KnownTypes}
-use Rattle.dwc_types.specs.declared.type_name.TypeStep.TheVariants.{Derived}
-use Rattle.dwc_types.specs.KnownNames.{IsWrapperName, KnowsTypes, NamesRing, NamesRingFrom}
+use Rattle.dwc_types.specs.declared.known_type.DerivedType.{DerivedType}
+use Rattle.dwc_types.specs.declared.known_type.KnownTypes.{KnownTypes}
+use Rattle.dwc_types.specs.declared.known_type.TypeStep.TheVariants.{Derived}
+use Rattle.dwc_types.specs.KeyedTypes.{IsNamedToRing, NamesAround}
+use Rattle.dwc_types.specs.KnownNames.{IsWrapperName, KnowsTypes, NamesRing}
 use Rattle.dwc_source.specs.KnownTexts.{IsNumbered}
-use Rattle.dwc_source.specs.OutputPlaces.{place_of}
 use Rattle.dwc_source.specs.Sources.{IsEmitted, IsSource}
-use Rattle.dwc_types.specs.TypeChains.{named_chain, offset_in_unit, type_found, type_view}
-use Rattle.dwc_types.specs.TypeRings.{IsPath, IsRound, IsRoundOrNone, IsStep, last_type_at, spelt_of}
+use Rattle.dwc_types.specs.TypeChains.{named_chain, type_view}
+use Rattle.dwc_types.specs.TypeRings.{AreLinks, IsLink, IsPath, IsRound, IsRoundOrNone, IsStep, Leads, consts_of, last_at, last_type_at, offsets_of, spelt_of, tags_of}
 use Rattle.dwc_types.specs.TypeSteps.{GivesStep}
 use Rattle.dwc_types.proofs.ChainWalkLaws.{with-chain}
-use Rattle.dwc_types.proofs.RingLaws.{absent-outside, AreLinks, IsLink, IsRing, last_at, Leads, offsets_of, ring-closed, ring-named, ring-named-outside, ring-turned, same-name, tags_of}
-use Rattle.dwc_types.proofs.RingTextLaws.{tags_in, turned-named, turned-named-all}
+use Rattle.dwc_types.proofs.RingLaws.{IsRing, ring-closed, ring-named, ring-turned, same-name}
+use Rattle.dwc_types.proofs.RingTextLaws.{named-around, tags_in, turned-named}
 use Rattle.dwc_types.proofs.TypeFoundLaws.{HasType, has-type, alike-name, one-entry, value-alike}
 
 -- ---- entries at one offset
@@ -252,76 +251,77 @@ module _ (c : CloneSource) (number : ℕ) (s : UnitSource) (source : IsSource c 
 
 -- ---- entries outside of a ring
 
-last-behind : (offset : ℕ) (ts : List DerivedType) (t : DerivedType) → last_type_at offset (ts ++ t ∷ []) ≡ t.offset
-last-behind offset [] t = refl
-last-behind offset (u ∷ ts) t = last-behind u.offset ts t
-
 last-at : (c : CloneSource) (s : UnitSource) (here there : ℕ) (fs : List Placed) (ts : List DerivedType) → here ≡ there → AreAt c s fs ts → last_at here fs ≡ last_type_at there ts
 last-at c s here there [] [] same are = same
 last-at c s here there (f ∷ fs) (t ∷ ts) same are = last-at c s f.entry.offset t.offset fs ts are.0.offset are.1
 last-at c s here there [] (t ∷ ts) same are = absurd are
 last-at c s here there (f ∷ fs) [] same are = absurd are
 
-module _ (c : CloneSource) (number : ℕ) (s : UnitSource) (source : IsSource c number s) where
-  -- The entry at an offset in the output is the type of an entry that refers to it.
-  type-there : (o x : Placed) (offset : ℕ) → IsEmitted c s o → IsEmitted c s x → x.entry.offset ≡ offset → offset_in_unit c (attribute DW_AT_type o.entry) ≡ Some offset → HasType c s o offset
-  type-there o x offset emitted there at is = go (place_of c.places.now offset) refl (ap (λ n. is_some (place_of c.places.now n)) (sym at) ∙ there.kept)
-    where
-      go : (p : Option (ℕ × ℕ)) → place_of c.places.now offset ≡ p → is_some p ≡ true → HasType c s o offset
-      go None placed kept = absurd (cc)
-      go (Some p) placed kept =
-          has-type c number s o (offset, p.1) source emitted (ap (λ v. option_and_then (λ n. option_map (λ q. (n, q.1)) (place_of c.places.now n)) v) is ∙ ap (option_map (λ q. (offset, q.1))) placed)
+-- Of a ring that begins at an offset, the part from one of its types on.
+record IsRest (types : KnownTypes) (own at : ℕ) (last t : DerivedType) (left : List DerivedType) : Type 0 where
+  pub between : List DerivedType
+  pub path : IsPath types own t.offset between at
+  pub is : t ∷ left ≡ between ++ last ∷ []
 
-  -- The name of an entry of the first type of a ring, which is not the last one, has the tags of all.
-  named-outside : (o x : Placed) (xs : List Placed) (t : DerivedType) (ts : List DerivedType) → IsEmitted c s o → HasType c s o t.offset → o.entry.offset ≢ last_type_at t.offset ts → IsRing (IsEmitted c s) s.texts s.entries (x ∷ xs) → AreAt c s (x ∷ xs) (t ∷ ts)
-      → type_name s.texts s.entries o ≡ Ok (named_chain (tags_in (t ∷ ts)) unknown)
-  named-outside o x xs t ts emitted h apart ring are =
+rest-of : (types : KnownTypes) (own from at : ℕ) (ts : List DerivedType) (last : DerivedType) (front left : List DerivedType) (t : DerivedType) → ts ++ last ∷ [] ≡ front ++ t ∷ left → IsPath types own from ts at → IsStep types at last → IsRest types own at last t left
+rest-of types own from at [] last [] left t is path step =
+    let same : last ≡ t = ap (λ us. get_or us 0 last) is in
+    record { between = []; path = ap (λ (u : DerivedType). u.offset) (sym same) ∙ step.here.at; is = sym is }
+rest-of types own from at [] last (f ∷ front) left t is path step = absurd (no-item front left t (ap (drop 1) is))
+rest-of types own from at (u ∷ us) last [] left t is path step =
+    let same : u ≡ t = ap (λ vs. get_or vs 0 u) is in
+    record {
+      between = u ∷ us;
+      path = (record { here = record { place = path.0.here.place; kept = path.0.here.kept; at = ap (λ (v : DerivedType). v.offset) same }; next = path.0.next; next_is = path.0.next_is }, path.1, path.2);
+      is = sym is;
+    }
+rest-of types own from at (u ∷ us) last (f ∷ front) left t is path step = rest-of types own path.0.next.offset at us last front left t (ap (drop 1) is) path.2 step
+
+module _ (c : CloneSource) (number : ℕ) (s : UnitSource) (source : IsSource c number s) where
+  -- An entry of a type of a ring is named along the whole of it.
+  along-ring : (o x : Placed) (xs : List Placed) (t : DerivedType) (ts : List DerivedType) (name : List ℕ) → IsEmitted c s o → HasType c s o t.offset → IsRing (IsEmitted c s) s.texts s.entries (x ∷ xs) → AreAt c s (x ∷ xs) (t ∷ ts) → name ≡ named_chain (tags_in (t ∷ ts)) unknown
+      → IsNamedToRing c s o (last_type_at t.offset ts) name
+  along-ring o x xs t ts name emitted h ring are name_is =
       let at : h.found.entry.offset ≡ x.entry.offset = h.at ∙ sym are.0.offset in
       let next = at-alike c number s source x h.found t h.emitted at are.0 in
-      let absent =
-      absent-outside (IsEmitted c s) s.texts s.entries (type-alike c number s source) o h.found x x xs emitted h.is ring.closed ring.links (ap (is_one_of (offsets_of xs)) at ∙ ring.distinct.0) (λ same. apart (same ∙ last-at c s x.entry.offset t.offset xs ts are.0.offset are.1)) in
-      ring-named-outside (IsEmitted c s) s.texts s.entries o h.found x xs h.is next.link at (type-alike c number s source h.found x h.emitted are.0.link.has at) absent ring
-      ∙ ap (λ tags. Ok (with_tags tags unknown)) (tags-at c s (h.found ∷ xs) (t ∷ ts) (next, are.1))
-      ∙ ap (λ n. Ok n) (with-chain (tags_in (t ∷ ts)) unknown)
-
-  -- The number of the name of the wrapper of an entry of the first type is that of another, of a type from which on the tags are the same.
-  name-outside : (e : Placed) (texts : List (List ℕ)) (id : StringId) (h : DerivedType) (rest : List DerivedType) (x : Placed) → IsEmitted c s e → HasType c s e h.offset → e.entry.offset ≢ last_type_at h.offset rest → IsWrapperName s texts e id → IsRingOf c s x (h ∷ rest)
-      → (front left : List DerivedType) (b t : DerivedType) → h ∷ rest ≡ (front ++ b ∷ []) ++ t ∷ left → spelt_of (t ∷ (left ++ (front ++ b ∷ []))) ≡ spelt_of (h ∷ rest)
-      → (f : Placed) → IsEmitted c s f → (f.entry.tag == DW_TAG_pointer_type) ≡ (e.entry.tag == DW_TAG_pointer_type) → offset_in_unit c (attribute DW_AT_type f.entry) ≡ Some t.offset → f.entry.offset ≢ b.offset → IsWrapperName s texts f id
-  name-outside e texts id h rest x e_emitted type apart named q front left b t is same f emitted kind at away = record {
-    name = named.name;
-    read = named-outside f a.found (a.later ++ a.before) t (left ++ (front ++ b ∷ [])) emitted (type-there f a.found t.offset emitted a.at.link.has a.at.offset at) (λ n. away (n ∙ last)) turned (a.at, both-at c s a.later a.before left (front ++ b ∷ []) a.left_at a.front_at)
-        ∙ ap (λ n. Ok n) (turned-named-all t (h ∷ rest) (front ++ b ∷ []) left is same unknown)
-        ∙ sym (named-outside e q.first q.others h rest e_emitted type apart q.closed q.are)
-        ∙ named.read;
-    number = subst (λ n. IsNumbered texts n id) (ap (λ p. (if p then codes "WebAssemblyPtrWrapper<" else codes "WebAssemblyRefWrapper<") ++ named.name ++ codes ">") (sym kind)) named.number;
-  }
+      record {
+        first = h.found;
+        others = xs;
+        again = x;
+        leads = (h.is, from-next (type-alike c number s source h.found x h.emitted are.0.link.has at) (xs ++ x ∷ []) ring.closed);
+        links = (next.link, ring.links.1);
+        distinct = (ap (is_one_of (offsets_of xs)) at ∙ ring.distinct.0, ring.distinct.1);
+        met = ap (λ b. b || is_one_of (offsets_of xs) x.entry.offset) (eq-eqb h.found.entry.offset x.entry.offset at);
+        last = last-at c s h.found.entry.offset t.offset xs ts h.at are.1;
+        name_is = name_is ∙ ap (λ tags. named_chain tags unknown) (sym (tags-at c s (h.found ∷ xs) (t ∷ ts) (next, are.1)));
+      }
     where
-      a : Around c s (q.first ∷ q.others) (front ++ b ∷ []) t left
-      a = around c s (q.first ∷ q.others) (front ++ b ∷ []) t left (subst (AreAt c s (q.first ∷ q.others)) is q.are)
+      from-next : type_of s.entries h.found ≡ type_of s.entries x → (ys : List Placed) → Leads s.entries x ys → Leads s.entries h.found ys
+      from-next same [] leads = tt
+      from-next same (y ∷ ys) leads = (same ∙ leads.0, leads.1)
 
-      last : last_type_at t.offset (left ++ (front ++ b ∷ [])) ≡ b.offset
-      last = ap (last_type_at t.offset) (sym (append_assoc left front (b ∷ []))) ∙ last-behind t.offset (left ++ front) b
+  -- So it is by the types that are kept.
+  along-kept : (types : KnownTypes) (own : ℕ) (ring front left : List DerivedType) (t : DerivedType) (name : List ℕ) → KnowsTypes c s types → IsRound types own ring → ring ≡ front ++ t ∷ left → (o : Placed) → IsEmitted c s o → HasType c s o t.offset → name ≡ named_chain (tags_in (t ∷ (left ++ front))) unknown
+      → IsNamedToRing c s o (last_type_at t.offset (left ++ front)) name
+  along-kept types own ring front left t name known r is o emitted h name_is = along-ring o a.found (a.later ++ a.before) t (left ++ front) name emitted h turned (a.at, both-at c s a.later a.before left front a.left_at a.front_at) name_is
+    where
+      rest : IsRest types own r.at r.last t left
+      rest = rest-of types own own r.at r.front r.last front left t (sym r.is ∙ is) r.path r.step
+
+      l : IsLifted c s own h.found (rest.between ++ r.last ∷ []) r.step.next.offset
+      l = lifted c number s source types known own t.offset r.at h.found rest.between r.last h.emitted h.at rest.path r.step
+
+      q : IsRingOf c s l.back ring
+      q = ring-of c number s source types known own l.back ring l.emitted (l.at ∙ r.closes) r
+
+      a : Around c s (q.first ∷ q.others) front t left
+      a = around c s (q.first ∷ q.others) front t left (subst (AreAt c s (q.first ∷ q.others)) is q.are)
 
       turned : IsRing (IsEmitted c s) s.texts s.entries (a.found ∷ (a.later ++ a.before))
       turned = ring-turned (IsEmitted c s) s.texts s.entries a.before a.later a.found (subst (IsRing (IsEmitted c s) s.texts s.entries) a.is q.closed)
 
-  names-from : (e : Placed) (texts : List (List ℕ)) (id : StringId) (own : ℕ) (ring : List DerivedType) (x : Placed) → IsEmitted c s e → HasType c s e own → x.entry.offset ≡ own → e.entry.offset ≢ last_type_at e.entry.offset ring → IsWrapperName s texts e id → IsRingOf c s x ring
-      → NamesRingFrom c s texts (e.entry.tag == DW_TAG_pointer_type) ring id
-  names-from e texts id own [] x emitted type here apart named q = absurd q.are
-  names-from e texts id own (h ∷ rest) x emitted type here apart named q = λ front left b t is same f f_emitted kind at away.
-      name-outside e texts id h rest x emitted (subst (HasType c s e) (sym here ∙ q.at ∙ q.are.0.offset) type) apart named q front left b t is same f f_emitted kind at away
-
-  -- So it is by the types that are kept.
-  pub names-ring-from : (types : KnownTypes) (own : ℕ) (e : Placed) (texts : List (List ℕ)) (id : StringId) (ring : List DerivedType) → KnowsTypes c s types → IsEmitted c s e → HasType c s e own → e.entry.offset ≢ last_type_at e.entry.offset ring → IsWrapperName s texts e id → IsRoundOrNone types own ring
-      → NamesRingFrom c s texts (e.entry.tag == DW_TAG_pointer_type) ring id
-  names-ring-from types own e texts id ring known emitted type apart named (inl none) = λ front left b t is same f f_emitted kind at away. absurd (no-item (front ++ b ∷ []) left t (sym none ∙ is))
-  names-ring-from types own e texts id ring known emitted type apart named (inr r) = names-from e texts id own ring type.found emitted type type.at apart named (ring-of c number s source types known own type.found ring type.emitted type.at r)
-
-  -- And by where its last type is.
-  pub names-first : (types : KnownTypes) (own offset tag : ℕ) (first : TypeEntry) (e : Placed) (texts : List (List ℕ)) (id : StringId) (ring seen : List DerivedType) (last : ℕ) → KnowsTypes c s types → IsEmitted c s e → type_found c e.entry ≡ Some (type_view first) → first.offset ≡ offset
-      → e.entry.offset ≡ own → e.entry.tag ≡ tag → IsWrapperName s texts e id → IsRoundOrNone types offset ring → seen ≡ ring → last ≡ last_type_at own seen → last ≢ own → NamesRingFrom c s texts (tag == DW_TAG_pointer_type) ring id
-  names-first types own offset tag first e texts id ring seen last known emitted type_is at here tag_is named round same last_is other =
-      let type = subst (HasType c s e) at (has-type c number s e (type_view first) source emitted type_is) in
-      subst (λ n. NamesRingFrom c s texts (n == DW_TAG_pointer_type) ring id) tag_is
-      (names-ring-from types offset e texts id ring known emitted type (λ n. other (last_is ∙ ap (last_type_at own) same ∙ ap (λ m. last_type_at m ring) (sym here) ∙ sym n ∙ here)) named round)
+-- The names of all that go to the types of a ring.
+pub names-around : (c : CloneSource) (s : UnitSource) (types : KnownTypes) (own : ℕ) (ring : List DerivedType) → KnowsTypes c s types → IsRoundOrNone types own ring → NamesAround c s (consts_of ring) ring
+names-around c s types own ring known (inl none) front left t is id number x source here type_is = absurd (no-item front left t (sym none ∙ is))
+names-around c s types own ring known (inr r) front left t is id number x source here type_is =
+    inr (along-kept c number s source types own ring front left t _ known r is x here (has-type c number s x (t.offset, id) source here type_is) (sym (named-around t ring front left is unknown)))

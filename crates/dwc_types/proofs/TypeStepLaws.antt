@@ -11,7 +11,7 @@ use Rattle.dwc_rules.specs.TypeNames.{derived_name, name_of}
 use Rattle.dwc_source.specs.declared.error.CloneError.{CloneError}
 use Rattle.dwc_source.specs.declared.source.CloneSource.{CloneSource}
 use Rattle.dwc_types.specs.declared.type_entry.TypeEntry.{TypeEntry}
-use Rattle.dwc_types.specs.declared.type_name.TypeStep.TheVariants.{Derived, Last}
+use Rattle.dwc_types.specs.declared.known_type.TypeStep.TheVariants.{Derived, Last}
 use Rattle.dwc_source.specs.Sources.{placed_entry, IsSource}
 use Rattle.dwc_source.specs.Errors.{refusal_told}
 use Rattle.dwc_source.specs.MadeValues.{RefusesSo}

@@ -4,8 +4,8 @@ use Rattle.std.specs.Ordering.{nat_cmp}
 use Rattle.std.specs.BTreeMap.{get}
 use Rattle.std.specs.List.{list_any, sum_by}
 use Rattle.dwc_rules.specs.TypeNames.{unknown}
-use Rattle.dwc_types.specs.declared.type_name.DerivedType.{DerivedType}
-use Rattle.dwc_types.specs.declared.type_name.KnownTypes.{KnownTypes}
+use Rattle.dwc_types.specs.declared.known_type.DerivedType.{DerivedType}
+use Rattle.dwc_types.specs.declared.known_type.KnownTypes.{KnownTypes}
 
 -- whether one of them is there, and is that at an offset
 abbrev pub is_found : Option DerivedType → ℕ → Bool

@@ -1,11 +1,12 @@
--- Types whose chain comes to an end, and keys for their names: two types of one key have names that are the same text.
-use Rattle.std.specs.Prelude.{◌≡◌, ℕ, zero, suc, ◌<◌, ◌≤◌, ◌==◌, ◌⊎◌, Bool, true, false, List, [], ◌∷◌, ◌++◌, is_some, if◌then◌else◌, Option, Some, None, option_map, IfSome, Result, Ok, Err, codes}
+-- The chains of types, which come to an end or to a ring, and keys for their names: two types of one key have names that are the same text.
+use Rattle.std.specs.Prelude.{◌≡◌, ℕ, zero, suc, ◌<◌, ◌≤◌, ◌+◌, ◌==◌, ◌⊎◌, Bool, true, false, List, [], ◌∷◌, ◌++◌, drop, take, is_some, if◌then◌else◌, Option, Some, None, option_map, IfSome, Result, Ok, Err, codes}
 use Rattle.std.specs.Ordering.{nat_cmp}
 use Rattle.std.specs.BTreeMap.{BTreeMap, get}
 use Rattle.dwc_base.specs.declared.constants.TheConstants.{DW_TAG_const_type, DW_TAG_pointer_type}
 use Rattle.dwc_base.specs.SortedEntries.{pair_cmp}
 use Rattle.dwc_rules.specs.Kept.{Placed}
 use Rattle.dwc_rules.specs.Clones.{UnitSource}
+use Rattle.dwc_dwarf.specs.Values.{is_one_of}
 use Rattle.dwc_rules.specs.TypeNames.{derived_name, name_of, type_of, unknown}
 use Rattle.dwc_rules.specs.Wrappers.{wrapper_name}
 use Rattle.dwc_unit.specs.declared.strings.StringId.{StringId}
@@ -14,13 +15,14 @@ use Rattle.dwc_source.specs.declared.source.CloneSource.{CloneSource}
 use Rattle.dwc_source.specs.KnownTexts.{IsNumbered}
 use Rattle.dwc_source.specs.Sources.{IsEmitted, IsSource}
 use Rattle.dwc_types.specs.declared.type_entry.TypeEntry.{TypeEntry}
-use Rattle.dwc_types.specs.declared.type_name.DerivedType.{DerivedType}
+use Rattle.dwc_types.specs.declared.known_type.DerivedType.{DerivedType}
 use Rattle.dwc_types.specs.declared.type_key.TypeKey.{TypeKey}
 use Rattle.dwc_types.specs.declared.type_key.TypeKeys.{TypeKeys}
 use Rattle.dwc_types.specs.declared.type_key.WayEnd.{WayEnd}
-use Rattle.dwc_types.specs.declared.type_key.WayEnd.TheVariants.{Keyed, Named, Open, Lost}
-use Rattle.dwc_types.specs.TypeChains.{behind_name, type_found, type_view}
+use Rattle.dwc_types.specs.declared.type_key.WayEnd.TheVariants.{Keyed, Named, Open, Ring, Lost}
+use Rattle.dwc_types.specs.TypeChains.{behind, behind_name, named_chain, type_found, type_view}
 use Rattle.dwc_types.specs.TypeReads.{EndsSo, IsRead}
+use Rattle.dwc_types.specs.TypeRings.{AreLinks, Distinct, Leads, last_at, last_type_at, offsets_of, spelt_of, tags_of}
 
 -- ---- texts
 
@@ -65,9 +67,27 @@ abbrev pub IsChain : CloneSource → UnitSource → Placed → List Placed → �
 IsChain c s x [] offset name = EndsAt c s x offset name
 IsChain c s x (y ∷ ys) offset name = (link : IsLinked c s x y name) × IsChain c s y ys offset link.inner
 
-pub record IsNamedAlong (c : CloneSource) (s : UnitSource) (x : Placed) (offset : ℕ) (name : List ℕ) : Type 0 where
+pub record IsNamedToEnd (c : CloneSource) (s : UnitSource) (x : Placed) (offset : ℕ) (name : List ℕ) : Type 0 where
   pub chain : List Placed
   pub is : IsChain c s x chain offset name
+
+-- ---- chains that come to a ring
+
+-- Types are derived from one another, the first of them that of an entry, up to the last, which is at an offset and is derived from one of them; a
+-- name is made so.
+pub record IsNamedToRing (c : CloneSource) (s : UnitSource) (x : Placed) (offset : ℕ) (name : List ℕ) : Type 0 where
+  pub first : Placed
+  pub others : List Placed
+  pub again : Placed
+  pub leads : Leads s.entries x ((first ∷ others) ++ again ∷ [])
+  pub links : AreLinks (IsEmitted c s) s.texts (first ∷ others)
+  pub distinct : Distinct (first ∷ others)
+  pub met : is_one_of (offsets_of (first ∷ others)) again.entry.offset ≡ true
+  pub last : last_at first.entry.offset others ≡ offset
+  pub name_is : name ≡ named_chain (tags_of (first ∷ others)) unknown
+
+abbrev pub IsNamedAlong : CloneSource → UnitSource → Placed → ℕ → List ℕ → Type 0
+IsNamedAlong c s x offset name = IsNamedToEnd c s x offset name ⊎ IsNamedToRing c s x offset name
 
 -- So it is for each entry that has a type.
 abbrev pub NamesNext : CloneSource → UnitSource → Option (ℕ × ℕ) → ℕ → List ℕ → Type 0
@@ -111,6 +131,22 @@ pub record HasCore (c : CloneSource) (s : UnitSource) (texts : List (List ℕ)) 
   pub is : knows.text core ≡ name
   pub grown : count ≤ keys.count
   pub same : (n : ℕ) → n < count → knows.text n ≡ before n
+
+-- So it is of so many cores from a first one on.
+pub record HasCores (c : CloneSource) (s : UnitSource) (texts : List (List ℕ)) (before : ℕ → List ℕ) (count : ℕ) (keys : TypeKeys) (first many : ℕ) (name : ℕ → List ℕ) : Type 0 where
+  pub knows : KnowsKeys c s texts keys
+  pub within : first + many ≤ keys.count
+  pub is : (j : ℕ) → j < many → knows.text (first + j) ≡ name j
+  pub grown : count ≤ keys.count
+  pub same : (n : ℕ) → n < count → knows.text n ≡ before n
+
+-- what the tags of a ring put behind what has no name, from where so many of them were passed
+abbrev pub turned_name : List ℕ → ℕ → List ℕ
+turned_name tags passed = unknown ++ behind (drop passed tags ++ take passed tags)
+
+-- The name of each type of a ring has so many constants in front of what the tags from it on put behind, for all but the type in front of it.
+abbrev pub NamesAround : CloneSource → UnitSource → ℕ → List DerivedType → Type 0
+NamesAround c s consts ring = (front left : List DerivedType) (t : DerivedType) → ring ≡ front ++ t ∷ left → (id : ℕ) → NamesNext c s (Some (t.offset, id)) (last_type_at t.offset (left ++ front)) (consts_front consts ++ (unknown ++ behind (spelt_of (t ∷ (left ++ front)))))
 
 -- They are known, and a key has a text.
 pub record HasText (c : CloneSource) (s : UnitSource) (texts : List (List ℕ)) (keys : TypeKeys) (key : TypeKey) (name : List ℕ) : Type 0 where
@@ -166,6 +202,7 @@ abbrev pub EndsWay : CloneSource → UnitSource → TypeKeys → TypeEntry → L
 EndsWay c s keys first way (Keyed key) = EndsWayKeyed c s keys first way key
 EndsWay c s keys first way (Named offset) = EndsWayAt c s first way offset
 EndsWay c s keys first way Open = IsWay c s (Some first) way None
+EndsWay c s keys first way (Ring offset) = Unit {0}
 EndsWay c s keys first way Lost = Unit {0}
 
 -- The types of a way are left, and a key is that of what the last is derived from.

@@ -1,5 +1,5 @@
 -- The types that were read of a unit and the names of wrappers that were made, and what is known by them.
-use Rattle.std.specs.Prelude.{◌≡◌, ℕ, ◌==◌, ◌≤◌, ◌≢◌, Bool, true, false, List, [], ◌∷◌, ◌++◌, slice_get, Option, Some, None, IfSome, Result, Ok, Err}
+use Rattle.std.specs.Prelude.{◌≡◌, ℕ, ◌==◌, ◌≤◌, ◌≢◌, Bool, true, false, List, ◌∷◌, ◌++◌, slice_get, Option, Some, None, IfSome, Result, Ok, Err}
 use Rattle.std.specs.Ordering.{nat_cmp}
 use Rattle.std.specs.BTreeMap.{BTreeMap, get}
 use Rattle.dwc_base.specs.declared.constants.TheConstants.{DW_AT_type, DW_TAG_const_type, DW_TAG_pointer_type}
@@ -11,8 +11,8 @@ use Rattle.dwc_rules.specs.Wrappers.{wrapper_name}
 use Rattle.dwc_unit.specs.declared.strings.StringId.{StringId}
 use Rattle.dwc_source.specs.declared.error.CloneError.{CloneError}
 use Rattle.dwc_source.specs.declared.source.CloneSource.{CloneSource}
-use Rattle.dwc_types.specs.declared.type_name.DerivedType.{DerivedType}
-use Rattle.dwc_types.specs.declared.type_name.KnownTypes.{KnownTypes}
+use Rattle.dwc_types.specs.declared.known_type.DerivedType.{DerivedType}
+use Rattle.dwc_types.specs.declared.known_type.KnownTypes.{KnownTypes}
 use Rattle.dwc_types.specs.declared.type_name.NotedName.{NotedName}
 use Rattle.dwc_types.specs.declared.type_name.TypeNames.{TypeNames}
 use Rattle.dwc_types.specs.DerivedTypes.{is_at, met_in}
@@ -69,11 +69,6 @@ pub record AreOwnNames (c : CloneSource) (s : UnitSource) (texts : List (List �
 -- A number is that of the name of the wrapper of each type of a ring from which on the tags of the ring are the same.
 abbrev pub NamesRing : CloneSource → UnitSource → List (List ℕ) → List DerivedType → StringId → Type 0
 NamesRing c s texts ring id = (front left : List DerivedType) (t : DerivedType) → ring ≡ front ++ t ∷ left → (t.tag == DW_TAG_const_type) ≡ false → spelt_of (t ∷ (left ++ front)) ≡ spelt_of ring → IsOwnName c s texts t.offset id
-
--- A number is that of the name of the wrapper of each entry in the output that is a pointer, or is none, and has a type of a ring from which on
--- the tags of the ring are the same, but for the one that is in front of it in the ring.
-abbrev pub NamesRingFrom : CloneSource → UnitSource → List (List ℕ) → Bool → List DerivedType → StringId → Type 0
-NamesRingFrom c s texts pointer ring id = (front left : List DerivedType) (b t : DerivedType) → ring ≡ (front ++ b ∷ []) ++ t ∷ left → spelt_of (t ∷ (left ++ (front ++ b ∷ []))) ≡ spelt_of ring → NamesWrappers c s texts pointer t.offset b.offset id
 
 -- So are those that are noted, of pointers and of references, and of entries in rings, in a table of texts; and the types and their keys are known.
 pub record KnowsNames (c : CloneSource) (s : UnitSource) (texts : List (List ℕ)) (names : TypeNames) : Type 0 where

@@ -6,7 +6,7 @@ use Rattle.dwc_rules.specs.TypeNames.{derived_name, name_of, unknown}
 use Rattle.dwc_source.specs.declared.source.CloneSource.{CloneSource}
 use Rattle.dwc_source.specs.Sources.{IsEmitted, IsSource}
 use Rattle.dwc_types.specs.declared.type_entry.TypeEntry.{TypeEntry}
-use Rattle.dwc_types.specs.declared.type_name.TypeStep.TheVariants.{Derived}
+use Rattle.dwc_types.specs.declared.known_type.TypeStep.TheVariants.{Derived}
 use Rattle.dwc_types.specs.TypeSteps.{GivesStep}
 
 -- The type at an offset has no name, and is derived from another.

@@ -1,9 +1,46 @@
 -- Types that are derived from one another in a ring.
-use Rattle.std.specs.Prelude.{◌≡◌, ℕ, ◌==◌, ◌+◌, ◌≢◌, ◌⊎◌, List, [], ◌∷◌, ◌++◌, drop, take, if◌then◌else◌, slice_get, Some}
+use Rattle.std.specs.Prelude.{◌≡◌, ℕ, suc, ◌==◌, ◌+◌, ◌≢◌, ◌⊎◌, false, is_some, List, [], ◌∷◌, ◌++◌, drop, map, take, true, if◌then◌else◌, slice_get, Some, None, Ok}
 use Rattle.dwc_base.specs.declared.constants.TheConstants.{DW_TAG_const_type}
+use Rattle.dwc_dwarf.specs.Texts.{TextSource}
+use Rattle.dwc_dwarf.specs.Values.{is_one_of}
+use Rattle.dwc_rules.specs.Kept.{Placed}
+use Rattle.dwc_rules.specs.TypeNames.{derived_name, name_of, type_of}
 use Rattle.dwc_types.specs.declared.type_entry.TypeEntry.{TypeEntry}
-use Rattle.dwc_types.specs.declared.type_name.DerivedType.{DerivedType}
-use Rattle.dwc_types.specs.declared.type_name.KnownTypes.{KnownTypes}
+use Rattle.dwc_types.specs.declared.known_type.DerivedType.{DerivedType}
+use Rattle.dwc_types.specs.declared.known_type.KnownTypes.{KnownTypes}
+
+-- ---- chains of entries
+
+abbrev pub offsets_of : List Placed → List ℕ
+offsets_of es = map (λ e. e.entry.offset) es
+
+abbrev pub tags_of : List Placed → List ℕ
+tags_of es = map (λ e. e.entry.tag) es
+
+-- Each of some entries is the type of the one before it, the first that of an entry.
+abbrev pub Leads : List Placed → Placed → List Placed → Type 0
+Leads es x [] = Unit {0}
+Leads es x (y ∷ ys) = (type_of es x ≡ Some y) × Leads es y ys
+
+-- A type has no name and is derived from another, and has a property.
+pub record IsLink (Has : Placed → Type 0) (texts : TextSource) (e : Placed) : Type 0 where
+  pub unnamed : name_of texts e ≡ Ok None
+  pub derived : is_some (derived_name e.entry.tag) ≡ true
+  pub has : Has e
+
+abbrev pub AreLinks : (Placed → Type 0) → TextSource → List Placed → Type 0
+AreLinks Has texts [] = Unit {0}
+AreLinks Has texts (y ∷ ys) = IsLink Has texts y × AreLinks Has texts ys
+
+-- No two are at one offset.
+abbrev pub Distinct : List Placed → Type 0
+Distinct [] = Unit {0}
+Distinct (y ∷ ys) = (is_one_of (offsets_of ys) y.entry.offset ≡ false) × Distinct ys
+
+-- the offset of the last of some entries, or else another
+abbrev pub last_at : ℕ → List Placed → ℕ
+last_at offset [] = offset
+last_at offset (y ∷ ys) = last_at y.entry.offset ys
 
 -- ---- rings
 
@@ -44,6 +81,11 @@ IsRoundOrNone types own ring = (ring ≡ []) ⊎ IsRound types own ring
 abbrev pub spelt_of : List DerivedType → List ℕ
 spelt_of [] = []
 spelt_of (t ∷ ts) = if t.tag == DW_TAG_const_type then spelt_of ts else t.tag ∷ spelt_of ts
+
+-- how many of some types are constants
+abbrev pub consts_of : List DerivedType → ℕ
+consts_of [] = 0
+consts_of (t ∷ ts) = if t.tag == DW_TAG_const_type then suc (consts_of ts) else consts_of ts
 
 -- Some tags are the same again where so many go from the front to the end.
 abbrev pub IsTurn : ℕ → List ℕ → Type 0

@@ -12,10 +12,10 @@ use Rattle.dwc_unit.specs.TextTables.{IsText}
 use Rattle.dwc_source.specs.declared.error.CloneError.{CloneError}
 use Rattle.dwc_source.specs.declared.source.CloneSource.{CloneSource}
 use Rattle.dwc_types.specs.declared.type_entry.TypeEntry.{TypeEntry}
-use Rattle.dwc_types.specs.declared.type_name.KnownTypes.{KnownTypes}
+use Rattle.dwc_types.specs.declared.known_type.KnownTypes.{KnownTypes}
 use Rattle.dwc_types.specs.declared.type_name.TypeNames.{TypeNames}
-use Rattle.dwc_types.specs.declared.type_name.TypeStep.{TypeStep}
-use Rattle.dwc_types.specs.declared.type_name.TypeStep.TheVariants.{Named, Last, Derived}
+use Rattle.dwc_types.specs.declared.known_type.TypeStep.{TypeStep}
+use Rattle.dwc_types.specs.declared.known_type.TypeStep.TheVariants.{Named, Last, Derived}
 use Rattle.dwc_source.specs.Errors.{refusal_told}
 use Rattle.dwc_source.specs.Sources.{IsEmitted, IsSource}
 use Rattle.dwc_types.specs.TypeChains.{GivesRead, type_found, type_view}

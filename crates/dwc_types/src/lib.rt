@@ -1,6 +1,8 @@
 //! The types of entries, and the names of types and of their wrappers, along chains and in rings.
 #![tactic(auto)]
 
+mod known_type;
+mod ring_key;
 mod type_entry;
 mod type_key;
 mod type_name;

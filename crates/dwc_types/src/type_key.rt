@@ -8,41 +8,40 @@ ghost use Rattle.dwc_rules.specs.Wrappers.{wrapper_name};
 ghost use Rattle.dwc_source.specs.declared.error.CloneError.TheVariants.{OutOfMemory};
 ghost use Rattle.dwc_source.specs.declared.source.CloneSource.{CloneSource};
 ghost use Rattle.dwc_source.specs.KnownTexts.{IsNumbered};
-ghost use Rattle.dwc_types.specs.declared.type_name.DerivedType.{DerivedType};
+ghost use Rattle.dwc_types.specs.declared.known_type.DerivedType.{DerivedType};
 ghost use Rattle.dwc_types.specs.DerivedTypes.{AddsUnmet, end_of, is_at};
-ghost use Rattle.dwc_types.specs.KeyedTypes.{EndsWay, HasCore, HasText, IfDerived, IfEnding, IsKeyBehind, IsKeyOf, KnowsBehind, KnowsKeys, KnowsWith, key_text, over_name};
+ghost use Rattle.dwc_types.specs.KeyedTypes.{EndsWay, HasCore, HasCores, HasText, IfDerived, IfEnding, IsKeyBehind, IsKeyOf, KnowsBehind, KnowsKeys, KnowsWith, key_text, over_name};
 ghost use Rattle.dwc_types.specs.KnownNames.{KnowsTypes};
 ghost use Rattle.dwc_types.specs.TypeChains.{behind_name};
 ghost use Rattle.dwc_types.specs.TypeReads.{EndsSo, IsRead};
 ghost use Rattle.dwc_types.specs.TypeSteps.{HaveTexts};
 
+use crate::known_type::{DerivedType, KnownTypes, find_type, meet, no_types};
+use crate::ring_key::key_ring;
 use crate::type_entry::TypeEntry;
-use crate::type_name::{DerivedType, KnownTypes, find_type, meet, no_types};
 use dwc_base::constants::{DW_TAG_const_type, DW_TAG_pointer_type};
 use dwc_source::{CloneError, CloneSource};
 use dwc_unit::StringId;
 use std::alloc::{AllocError, Global};
-use std::collections::{BTreeMap, BTreeSet};
+use std::collections::BTreeMap;
 
 /// The name of a type in short: so many constants in front of a core, which a number stands for. It is the name for all entries that go to the
-/// type but the one at an offset.
+/// type but the one at an offset: the end of its chain, or the type of its ring that is in front of where the chain enters the ring.
 #[derive(Clone, Copy)]
 pub(crate) struct TypeKey {
-    core: u64,
-    consts: u64,
+    pub(crate) core: u64,
+    pub(crate) consts: u64,
     pub(crate) but: u64,
 }
 
-/// The keys of the types whose chain comes to an end, and the names of wrappers by keys. Two types of one key have names that are the same text,
-/// so that this is made and added once for all of them.
+/// The keys of types, and the names of wrappers by keys. Two types of one key have names that are the same text, so that this is made and added
+/// once for all of them.
 #[derive(Drop)]
 pub(crate) struct TypeKeys {
     // by the offsets of the types
-    types: BTreeMap<u64, TypeKey>,
+    pub(crate) types: BTreeMap<u64, TypeKey>,
     // the cores that are made of others, by these and by the tags of what is put behind them
     cores: BTreeMap<(u64, u16), u64>,
-    // the types whose chain comes to no end, or to a type that cannot be read
-    lost: BTreeSet<u64>,
     // how many cores there are; the first is that of what has no name
     count: u64,
     // the names of wrappers of pointers and of references, by a core and the number of constants
@@ -50,13 +49,14 @@ pub(crate) struct TypeKeys {
     references: BTreeMap<(u64, u64), StringId>,
 }
 
-// What a way along derived types leads to: a type whose key is known; one that ends a chain, by its offset; no further type; or a ring, or a type
-// that cannot be read.
+// What a way along derived types leads to: a type whose key is known; one that ends a chain, by its offset; no further type; one that it passed
+// before, by its offset; or one that cannot be read.
 #[derive(Clone, Copy)]
 enum WayEnd {
     Keyed(TypeKey),
     Named(u64),
     Open,
+    Ring(u64),
     Lost,
 }
 
@@ -67,7 +67,6 @@ pub(crate) fn no_keys(alloc: Global) -> TypeKeys
     TypeKeys {
         types: BTreeMap::new(alloc),
         cores: BTreeMap::new(alloc),
-        lost: BTreeSet::new(alloc),
         count: 1,
         pointers: BTreeMap::new(alloc),
         references: BTreeMap::new(alloc),
@@ -151,9 +150,6 @@ fn follow_way(
     let mut next = Some(first);
     let mut near = types.derived.len();
     while let Some(named) = next {
-        if keys.lost.contains(&named.offset) {
-            return Ok(WayEnd::Lost);
-        }
         if let Some(key) = known_key(keys, named.offset) {
             return Ok(WayEnd::Keyed(key));
         }
@@ -164,7 +160,7 @@ fn follow_way(
             return Ok(WayEnd::Named(named.offset));
         };
         let Some(met) = meet(types, place, walk) else {
-            return Ok(WayEnd::Lost);
+            return Ok(WayEnd::Ring(named.offset));
         };
         way.push(met)?;
         next = met.next;
@@ -173,17 +169,25 @@ fn follow_way(
     Ok(WayEnd::Open)
 }
 
+/// So many cores that were none yet; answers the first.
+pub(crate) fn fresh_cores(keys: &mut TypeKeys, many: u64) -> Result<u64, CloneError>
+    ensures memory { IfErr result (λ e. e ≡ OutOfMemory) }
+    ensures cores { (source : CloneSource) (s : UnitSource) (texts : List (List ℕ)) (known : KnowsKeys source s texts keys.old) (name : ℕ → List ℕ) → IfOk result (λ first. HasCores source s texts known.text keys.old.count keys.new first many name) }
+{
+    let first = keys.count;
+    let Some(count) = first.checked_add(many) else {
+        return Err(CloneError::OutOfMemory);
+    };
+    keys.count = count;
+    Ok(first)
+}
+
 // A core that was none yet.
 fn fresh_core(keys: &mut TypeKeys) -> Result<u64, CloneError>
     ensures memory { IfErr result (λ e. e ≡ OutOfMemory) }
     ensures core { (source : CloneSource) (s : UnitSource) (texts : List (List ℕ)) (known : KnowsKeys source s texts keys.old) (name : List ℕ) → IfOk result (λ core. HasCore source s texts known.text keys.old.count keys.new core name) }
 {
-    let core = keys.count;
-    let Some(count) = core.checked_add(1) else {
-        return Err(CloneError::OutOfMemory);
-    };
-    keys.count = count;
-    Ok(core)
+    fresh_cores(keys, 1)
 }
 
 // The key of a type at an offset that ends a chain.
@@ -214,7 +218,7 @@ fn end_key(keys: &mut TypeKeys, end: WayEnd) -> Result<Option<TypeKey>, CloneErr
             consts: 0,
             but: 0,
         })),
-        WayEnd::Lost => Ok(None),
+        WayEnd::Ring(_) | WayEnd::Lost => Ok(None),
     }
 }
 
@@ -265,14 +269,21 @@ fn key_over(keys: &mut TypeKeys, tag: u16, key: TypeKey) -> Result<TypeKey, Clon
     })
 }
 
-// Keeps the key of a derived type, by the key of the type that it is derived from.
-fn keep_over(keys: &mut TypeKeys, met: &DerivedType, key: TypeKey) -> Result<TypeKey, CloneError>
+// Keeps the key of a derived type, by the key of the type that it is derived from; None where it is the one that this is no key for.
+fn keep_over(
+    keys: &mut TypeKeys,
+    met: &DerivedType,
+    key: TypeKey,
+) -> Result<Option<TypeKey>, CloneError>
     ensures memory { IfErr result (λ e. e ≡ OutOfMemory) }
-    ensures key { (source : CloneSource) (s : UnitSource) (texts : List (List ℕ)) (next : TypeEntry) → next.offset ≡ met.now.offset → IsRead source s met.now.offset met.now.tag met.now.next → IsKeyOf source s texts keys.old met.now.next key → IfOk result (IsKeyOf source s texts keys.new (Some next)) }
+    ensures key { (source : CloneSource) (s : UnitSource) (texts : List (List ℕ)) (next : TypeEntry) → next.offset ≡ met.now.offset → IsRead source s met.now.offset met.now.tag met.now.next → IsKeyOf source s texts keys.old met.now.next key → IfOk result (KnowsWith source s texts keys.new next) }
 {
+    if met.offset == key.but {
+        return Ok(None);
+    }
     let over = key_over(keys, met.tag, key)?;
     keys.types.insert(met.offset, over)?;
-    Ok(over)
+    Ok(Some(over))
 }
 
 // Keeps the keys of the types of a way, each derived from the next, by the key of what the last is derived from; answers that of the first, or
@@ -281,26 +292,57 @@ fn keep_way(
     keys: &mut TypeKeys,
     way: &mut Vec<DerivedType>,
     end: TypeKey,
-) -> Result<TypeKey, CloneError>
+) -> Result<Option<TypeKey>, CloneError>
     ensures memory { IfErr result (λ e. e ≡ OutOfMemory) }
-    ensures key { (source : CloneSource) (s : UnitSource) (texts : List (List ℕ)) (first : TypeEntry) → IsKeyBehind source s texts keys.old first way.old.items end → IfOk result (IsKeyOf source s texts keys.new (Some first)) }
+    ensures key { (source : CloneSource) (s : UnitSource) (texts : List (List ℕ)) (first : TypeEntry) → IsKeyBehind source s texts keys.old first way.old.items end → IfOk result (KnowsWith source s texts keys.new first) }
 {
     let mut key = end;
     while let Some(met) = way.pop() {
-        key = keep_over(keys, &met, key)?;
+        let Some(over) = keep_over(keys, &met, key)? else {
+            return Ok(None);
+        };
+        key = over;
     }
-    Ok(key)
+    Ok(Some(key))
 }
 
-// Keeps that the types of a way have no key.
-fn lose_way(lost: &mut BTreeSet<u64>, way: &[DerivedType]) -> Result<(), AllocError> {
-    for i in 0..way.len() {
-        lost.insert(way[i].offset)?;
+// The key of a type, if a way from it leads to something that has one; the keys of the types of the way are kept.
+fn key_by_way(
+    keys: &mut TypeKeys,
+    way: &mut Vec<DerivedType>,
+    end: WayEnd,
+) -> Result<Option<TypeKey>, CloneError>
+    ensures memory { IfErr result (λ e. e ≡ OutOfMemory) }
+    ensures key { (source : CloneSource) (s : UnitSource) (texts : List (List ℕ)) (first : TypeEntry) → EndsWay source s keys.old first way.old.items end → KnowsKeys source s texts keys.old → IfOk result (KnowsWith source s texts keys.new first) }
+{
+    match end_key(keys, end)? {
+        Some(key) => keep_way(keys, way, key),
+        None => Ok(None),
     }
-    Ok(())
 }
 
-/// The key of a type, if its chain comes to an end and all of it can be read.
+// Follows the types from one on, as a chain more.
+fn next_way(
+    alloc: Global,
+    source: &CloneSource<'_, '_>,
+    first: TypeEntry,
+    types: &mut KnownTypes,
+    keys: &TypeKeys,
+    way: &mut Vec<DerivedType>,
+) -> Result<WayEnd, CloneError>
+    requires texts { HaveTexts types.old }
+    requires empty { way.old.items ≡ [] }
+    ensures texts { HaveTexts types.new }
+    ensures memory { IfErr result (λ e. e ≡ OutOfMemory) }
+    ensures types { (s : UnitSource) → KnowsTypes source.now s types.old → OnOk result (KnowsTypes source.now s types.new) }
+    ensures way { (s : UnitSource) → KnowsTypes source.now s types.old → IfOk result (EndsWay source.now s keys.now first way.new.items) }
+{
+    let walk = next_walk(types)?;
+    follow_way(alloc, source, first, walk, types, keys, way)
+}
+
+/// The key of a type, if all of its chain can be read. Where the chain comes to a ring, the keys of all types of the ring are kept, and the
+/// chain is followed again, which then leads to one of these.
 pub(crate) fn key_of(
     alloc: Global,
     source: &CloneSource<'_, '_>,
@@ -314,16 +356,15 @@ pub(crate) fn key_of(
     ensures types { (s : UnitSource) → KnowsTypes source.now s types.old → OnOk result (KnowsTypes source.now s types.new) }
     ensures key { (s : UnitSource) (texts : List (List ℕ)) → KnowsTypes source.now s types.old → KnowsKeys source.now s texts keys.old → IfOk result (KnowsWith source.now s texts keys.new first) }
 {
-    let walk = next_walk(types)?;
     let mut way = Vec::new(alloc);
-    let end = follow_way(alloc, source, first, walk, types, keys, &mut way)?;
-    match end_key(keys, end)? {
-        Some(key) => Ok(Some(keep_way(keys, &mut way, key)?)),
-        None => {
-            lose_way(&mut keys.lost, &way)?;
-            Ok(None)
-        }
-    }
+    let end = next_way(alloc, source, first, types, keys, &mut way)?;
+    let WayEnd::Ring(offset) = end else {
+        return key_by_way(keys, &mut way, end);
+    };
+    key_ring(alloc, types, keys, offset)?;
+    let mut way = Vec::new(alloc);
+    let end = next_way(alloc, source, first, types, keys, &mut way)?;
+    key_by_way(keys, &mut way, end)
 }
 
 // The number that is noted of a key.

@@ -1,12 +1,12 @@
 //! Types that are derived from one another in a ring, and which of them have names that are the same text.
-ghost use Rattle.std.specs.Prelude.{◌≡◌, ◌==◌, ◌<◌, ◌+◌, ◌^◌, Bool, List, ℕ, IfOk, IfSome, OnOk, false, true};
+ghost use Rattle.std.specs.Prelude.{◌≡◌, ◌==◌, ◌<◌, ◌+◌, ◌^◌, List, ℕ, IfOk, IfSome, OnOk, false, true};
 ghost use Rattle.dwc_base.specs.declared.constants.TheConstants.{DW_TAG_const_type};
 ghost use Rattle.dwc_rules.specs.Clones.{UnitSource};
 ghost use Rattle.dwc_source.specs.declared.source.CloneSource.{CloneSource};
-ghost use Rattle.dwc_types.specs.KnownNames.{AreOwnNames, AreWrapperNames, IsOwnName, NamesRing, NamesRingFrom, NamesWrappers};
+ghost use Rattle.dwc_types.specs.KnownNames.{AreOwnNames, IsOwnName, NamesRing};
 ghost use Rattle.dwc_types.specs.TypeRings.{IsKeptAt, IsRoundOrNone, IsTurn, last_type_at, passed_with, spelt_of};
 
-use crate::type_name::{DerivedType, KnownTypes, NotedName, place_of};
+use crate::known_type::{DerivedType, KnownTypes, place_of};
 use dwc_base::constants::DW_TAG_const_type;
 use dwc_unit::StringId;
 use std::alloc::{AllocError, Global};
@@ -152,8 +152,8 @@ pub(crate) fn note_ring(
     Ok(())
 }
 
-// How many tags of a turn are passed behind a type, by those that are passed in front of it.
-fn passed_behind(tag: u16, turn: usize, passed: usize) -> usize
+/// How many tags of a turn are passed behind a type, by those that are passed in front of it.
+pub(crate) fn passed_behind(tag: u16, turn: usize, passed: usize) -> usize
     requires { passed + 1 < 2 ^ 64 }
     ensures { result ≡ passed_with tag turn passed }
 {
@@ -166,50 +166,6 @@ fn passed_behind(tag: u16, turn: usize, passed: usize) -> usize
     passed + 1
 }
 
-// Notes the number of a name for all that go to a type of a ring but the type in front of it, where a turn is passed since the last one; answers
-// how many tags of the turn are passed behind it.
-fn note_next_from(
-    names: &mut BTreeMap<u64, NotedName>,
-    before: &DerivedType,
-    met: &DerivedType,
-    turn: usize,
-    passed: usize,
-    name: StringId,
-) -> Result<usize, AllocError>
-    requires { passed + 1 < 2 ^ 64 }
-    ensures passed { IfOk result (λ n. n ≡ passed_with met.now.tag turn passed) }
-    ensures names { (source : CloneSource) (s : UnitSource) (texts : List (List ℕ)) (pointer : Bool) → ((passed == turn) ≡ true → NamesWrappers source s texts pointer met.now.offset before.now.offset name) → AreWrapperNames source s texts pointer names.old → OnOk result (AreWrapperNames source s texts pointer names.new) }
-{
-    let behind = passed_behind(met.tag, turn, passed);
-    if passed != turn {
-        return Ok(behind);
-    }
-    let but = before.offset;
-    names.insert(met.offset, NotedName { name, but })?;
-    Ok(behind)
-}
-
-/// Notes the number of the name of the wrapper of all that go to a ring's first type from outside of it, for each type of the ring where this is
-/// the same name.
-pub(crate) fn note_ring_from(
-    names: &mut BTreeMap<u64, NotedName>,
-    ring: &[DerivedType],
-    turn: usize,
-    name: StringId,
-) -> Result<(), AllocError>
-    requires { IsTurn turn (spelt_of ring.now) }
-    ensures { (source : CloneSource) (s : UnitSource) (texts : List (List ℕ)) (pointer : Bool) → NamesRingFrom source s texts pointer ring.now name → AreWrapperNames source s texts pointer names.old → OnOk result (AreWrapperNames source s texts pointer names.new) }
-{
-    if ring.is_empty() {
-        return Ok(());
-    }
-    let mut passed = passed_behind(ring[0].tag, turn, 0);
-    for i in 1..ring.len() {
-        passed = note_next_from(names, &ring[i - 1], &ring[i], turn, passed, name)?;
-    }
-    Ok(())
-}
-
 /// The offset of the last of some types, or else another.
 pub(crate) fn last_offset(types: &[DerivedType], other: u64) -> u64
     ensures { result ≡ last_type_at other types.now }
@@ -219,15 +175,4 @@ pub(crate) fn last_offset(types: &[DerivedType], other: u64) -> u64
         last = types[i].offset;
     }
     last
-}
-
-/// Whether the derived type at an offset is kept and derived from the one at another.
-pub(crate) fn goes_to(types: &KnownTypes, offset: u64, other: u64) -> bool {
-    match type_at(types, offset, 0) {
-        Some(met) => match met.next {
-            Some(named) => named.offset == other,
-            None => false,
-        },
-        None => false,
-    }
 }

@@ -14,6 +14,6 @@ pub returns-clause-core : goal.returns-clause-core
 returns-clause-core c source s texts known below =
     let before = c.args.keys.now in
     let old = c.fresh_core.new.keys in
-    let new : TypeKeys = record { types = old.types; cores = c.insert.new.self; lost = old.lost; count = old.count; pointers = old.pointers; references = old.references } in
+    let new : TypeKeys = record { types = old.types; cores = c.insert.new.self; count = old.count; pointers = old.pointers; references = old.references } in
     core-kept source s texts old new refl c.args.core c.args.tag c.in_ok-fresh.fresh c.in_ok-insert.ensures.updates.0 refl refl refl known.text before.count below
     (c.in_ok-fresh.ensures.core source s texts known (known.text c.args.core ++ behind_name c.args.tag))

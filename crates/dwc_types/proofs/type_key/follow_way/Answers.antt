@@ -3,7 +3,7 @@ use Rattle.std.specs.Prelude.{◌==◌}
 use Rattle.std.proofs.lemmas.Bool.{eqb-true}
 use Rattle.dwc_rules.specs.Clones.{UnitSource}
 use Rattle.dwc_types.specs.declared.type_entry.TypeEntry.{TypeEntry}
-use Rattle.dwc_types.specs.declared.type_name.DerivedType.{DerivedType}
+use Rattle.dwc_types.specs.declared.known_type.DerivedType.{DerivedType}
 use Rattle.dwc_types.specs.DerivedTypes.{AddsUnmet, end_of, is_at, is_found, room}
 use Rattle.dwc_types.specs.KeyedTypes.{IfDerived, IfEnding, IsWay}
 use Rattle.dwc_types.specs.KnownNames.{KnowsTypes}

@@ -1,5 +1,5 @@
 use Rattle.std.proofs.Common.{◌≡◌, ◌+◌, refl, rules}
-use Rattle.dwc_types.specs.declared.type_name.KnownTypes.{KnownTypes}
+use Rattle.dwc_types.specs.declared.known_type.KnownTypes.{KnownTypes}
 use Rattle.dwc_types.proofs.KnownTypeLaws.{keeps-counted}
 use Rattle.dwc_types.proofs.type_key.next_walk.Goals as goal
 

@@ -4,7 +4,7 @@ use Rattle.std.proofs.lemmas.Result.{err_from_is_err_and}
 use Rattle.dwc_rules.specs.TypeNames.{type_name}
 use Rattle.dwc_unit.specs.TextTables.{IsText}
 use Rattle.dwc_types.specs.declared.type_name.ChainName.{ChainName}
-use Rattle.dwc_types.specs.declared.type_name.KnownTypes.{KnownTypes}
+use Rattle.dwc_types.specs.declared.known_type.KnownTypes.{KnownTypes}
 use Rattle.dwc_types.specs.TypeChains.{named_chain}
 use Rattle.dwc_types.proofs.ChainNameLaws.{chain-text}
 use Rattle.dwc_types.proofs.KnownTypeLaws.{fresh-counted, keeps-counted}

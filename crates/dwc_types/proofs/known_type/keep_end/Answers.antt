@@ -1,6 +1,6 @@
 use Rattle.std.proofs.Common.{◌≡◌, refl, rules}
 use Rattle.dwc_types.proofs.KnownTypeLaws.{keeps-end}
-use Rattle.dwc_types.proofs.type_name.keep_end.Goals as goal
+use Rattle.dwc_types.proofs.known_type.keep_end.Goals as goal
 
 pub returns-clause-types : goal.returns-clause-types
 returns-clause-types c source s ends known =

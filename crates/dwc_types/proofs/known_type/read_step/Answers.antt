@@ -5,7 +5,7 @@ use Rattle.dwc_rules.specs.TypeNames.{name_of}
 use Rattle.dwc_read.specs.EntriesSeen.{entry_view}
 use Rattle.dwc_source.specs.Sources.{placed_entry}
 use Rattle.dwc_types.proofs.TypeStepLaws.{derived-given, gives-none, last-given, name-given, name-refusal}
-use Rattle.dwc_types.proofs.type_name.read_step.Goals as goal
+use Rattle.dwc_types.proofs.known_type.read_step.Goals as goal
 
 pub returns-in_err-entry-clause-step : goal.returns-in_err-entry-clause-step
 returns-in_err-entry-clause-step c number s f source emitted at =

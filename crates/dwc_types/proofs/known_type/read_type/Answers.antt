@@ -4,7 +4,7 @@ use Rattle.std.specs.Option.{option_copied}
 use Rattle.dwc_types.specs.TypeReads.{EndsSo}
 use Rattle.dwc_types.specs.TypeSteps.{ReadsStep}
 use Rattle.dwc_types.proofs.KnownTypeLaws.{ends-kept, ends-last, ends-named}
-use Rattle.dwc_types.proofs.type_name.read_type.Goals as goal
+use Rattle.dwc_types.proofs.known_type.read_type.Goals as goal
 
 pub returns-in-Some-clause-ending : goal.returns-in-Some-clause-ending
 returns-in-Some-clause-ending c s known =

@@ -13,7 +13,7 @@ use Rattle.dwc_read.specs.EntriesSeen.{entry_view}
 use Rattle.dwc_read.specs.ValuesSeen.{value_view}
 use Rattle.dwc_types.proofs.ChainNameLaws.{name-is, name-refused}
 use Rattle.dwc_source.proofs.TextLaws.{reported-text-read}
-use Rattle.dwc_types.proofs.type_name.name_of.Goals as goal
+use Rattle.dwc_types.proofs.known_type.name_of.Goals as goal
 
 pub returns-then-is_utf8-clause-name : goal.returns-then-is_utf8-clause-name
 returns-then-is_utf8-clause-name c = λ e is.

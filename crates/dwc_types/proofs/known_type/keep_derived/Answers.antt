@@ -3,7 +3,7 @@ use Rattle.std.specs.Prelude.{cond}
 use Rattle.std.specs.Ordering.{nat_cmp}
 use Rattle.std.specs.BTreeMap.{get, is_at}
 use Rattle.dwc_types.proofs.KnownTypeLaws.{keeps-derived}
-use Rattle.dwc_types.proofs.type_name.keep_derived.Goals as goal
+use Rattle.dwc_types.proofs.known_type.keep_derived.Goals as goal
 
 pub returns-clause-types : goal.returns-clause-types
 returns-clause-types c source s read away known =

@@ -1,7 +1,7 @@
 use Rattle.dwc_read.specs.EntriesSeen.{entry_view}
 use Rattle.dwc_read.proofs.ReadValueLaws.{entry-read}
 use Rattle.dwc_types.proofs.TypeFoundLaws.{read-alike}
-use Rattle.dwc_types.proofs.type_name.type_entry.Goals as goal
+use Rattle.dwc_types.proofs.known_type.type_entry.Goals as goal
 
 pub returns-clause-alike : goal.returns-clause-alike
 returns-clause-alike c number s f source emitted at = read-alike c.args.source.now number s f c.args.offset (entry_view c.in_ok-entry_at.field-0) source emitted at c.in_ok-entry_at.ensures
