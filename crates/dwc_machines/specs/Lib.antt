@@ -1,0 +1,5 @@
+pub mod StackOperations
+pub mod NativeStates
+pub mod ByteMachine
+pub mod PartMachine
+pub mod WasmMachine

@@ -1,0 +1,2 @@
+//! Definitions: the machines that run expressions.
+#![tactic(auto)]
