@@ -34,3 +34,4 @@ pub mod StayLaws
 pub mod VaryingLaws
 mod StepLaws
 mod WholeLaws
+pub mod Meaning

@@ -11,11 +11,10 @@ use Rattle.dwc_base.specs.declared.constants.TheConstants.{DW_OP_plus_uconst}
 use Rattle.dwc_base.proofs.InLists.{IsIn, any-in, in-any, in-append, append-left, append-right, in-map, in-filter_map, filter_map-in, in-flat_map, flat_map-in}
 use Rattle.dwc_expr.specs.declared.error.ExprError.{ExprError}
 use Rattle.dwc_expr.specs.Compiles.{Compiles}
-use Rattle.dwc_expr.specs.Landings.{Mark, marked_pad, parts_behind_marks}
 use Rattle.dwc_expr.specs.Steps.{supported_operations}
 use Rattle.dwc_expr.specs.Supported.{compiled_supported}
 use Rattle.dwc_expr.specs.WholeParts.{jump_place, pad_place, has_pad, JumpsLand}
-use Rattle.dwc_expr.proofs.CompileLaws.{through, compiled-held, compiled-through, supported-parts}
+use Rattle.dwc_expr.proofs.CompileLaws.{through, compiled-held, compiled-through}
 use Rattle.dwc_expr.proofs.PairLaws.{in-all, all-true}
 
 -- ---- joining bytes keeps what is told of other parts
@@ -174,10 +173,6 @@ module _ (base : Option CompiledParts) (free : holds_jump base ≡ false) where
         go : (whole : Bool) → has_whole_jumps size os ≡ whole → if◌then◌else◌ {A = Result (Option CompiledParts) ℕ} whole (Ok (Some (compiled_operations base size os))) (Ok None) ≡ Ok (Some x) → JumpsLand x.parts
         go true whole same = let given : compiled_operations base size os ≡ x = cc in subst (λ (y : CompiledParts). JumpsLand y.parts) given (operations-land whole)
         go false broken same = absurd (cc)
-
-    -- and in the parts that are made by marks
-    pub parts-land : has_whole_jumps size os ≡ true → (marks : List Bool) (parts : List Part) → lone_local os ≡ None → Mark marks (targets os) → parts ≡ joined (old_format base os ++ (parts_behind_marks base marks os ++ marked_pad marks size)) → JumpsLand parts
-    parts-land whole marks parts lone stand are = supported-land (record { parts = parts; need_deref = leaves_address os }) (supported-parts base size os whole marks parts (leaves_address os) lone stand are refl)
 
 -- The jumps of what an expression compiles to all arrive.
 pub compiled-land : (base : Option CompiledParts) (bytes : List ℕ) (x : CompiledParts) → compiled base bytes ≡ Ok (Some x) → JumpsLand x.parts

@@ -1,6 +1,7 @@
 pub mod Actions
 pub mod Alone
 pub mod Builds
+pub mod BuiltMeanings
 pub mod CodeRanges
 pub mod Compiles
 pub mod Copies
@@ -9,11 +10,13 @@ pub mod Frames
 pub mod JoinedParts
 pub mod JoinedScopes
 pub mod Jumps
+pub mod KeepsMeaning
 pub mod LabelRanges
 pub mod Landings
-pub mod OverIntervals
+pub mod MeaningPremises
 pub mod NarrowedRanges
 pub mod NeededLabels
+pub mod OverIntervals
 pub mod OwnPlaces
 pub mod PartViews
 pub mod PartsToBuild
@@ -22,6 +25,7 @@ pub mod RangeExpressions
 pub mod RangeSettings
 pub mod Refusals
 pub mod Rules
+pub mod RunsAlike
 pub mod Steps
 pub mod Supported
 pub mod Varying

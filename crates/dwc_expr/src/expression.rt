@@ -3,6 +3,7 @@ ghost use Rattle.std.specs.Prelude.{◌≡◌, IfOk, IfErr, map};
 ghost use Rattle.std.specs.List.{list_any};
 ghost use Rattle.dwc_native.specs.Parts.{context_label, is_jump, is_simple as is_simple_by, label_alone, single_code};
 ghost use Rattle.dwc_expr.specs.PartViews.{part_view};
+ghost use Rattle.dwc_expr.specs.WholeParts.{IsWhole};
 ghost use Rattle.dwc_expr.specs.declared.error.ExprError.TheVariants.{OutOfMemory};
 
 use crate::{CompiledExpressionPart, ExprError};
@@ -12,7 +13,8 @@ use std::alloc::{AllocError, Global};
 use std::marker::Model;
 
 /// An expression of the input in parts, in which locals, reads of linear memory and jumps stand apart from operations that stay as
-/// they are. Each jump goes to a place of which the parts have a landing pad.
+/// they are. It is the place of one label; or operations that stay are whole and do not jump, and each jump goes to a place of which
+/// the parts have a landing pad.
 #[derive(Drop)]
 pub struct CompiledExpression {
     pub(crate) parts: Vec<CompiledExpressionPart>,
@@ -27,13 +29,13 @@ impl Model for CompiledExpression {
     ghost use Rattle.std.specs.List.{list_any};
     ghost use Rattle.dwc_native.specs.Parts.{CompiledParts, is_jump};
     ghost use Rattle.dwc_expr.specs.PartViews.{part_view};
-    ghost use Rattle.dwc_expr.specs.WholeParts.{JumpsLand};
+    ghost use Rattle.dwc_expr.specs.WholeParts.{IsWhole};
 
     ghost Value = { CompiledParts };
 
     ghost view = { λ x. record { parts = map part_view x.parts.items; need_deref = x.need_deref } };
 
-    ghost invariant = { λ x. (x.has_jump ≡ list_any is_jump (map part_view x.parts.items)) × JumpsLand (map part_view x.parts.items) };
+    ghost invariant = { λ x. (x.has_jump ≡ list_any is_jump (map part_view x.parts.items)) × IsWhole (record { parts = map part_view x.parts.items; need_deref = x.need_deref }) };
 }
 
 impl CompiledExpression {
@@ -102,9 +104,10 @@ impl CompiledExpression {
         }
     }
 
-    // Whether one of its parts is a jump.
+    // Whether one of its parts is a jump; and it is whole.
     pub(crate) fn has_jump(&self) -> bool
-        ensures { result ≡ list_any is_jump self.now.parts }
+        ensures jump { result ≡ list_any is_jump self.now.parts }
+        ensures whole { IsWhole self.now }
     {
         self.has_jump
     }

@@ -1,15 +1,16 @@
 //! Builds expressions over scopes.
-ghost use Rattle.std.specs.Prelude.{◌≡◌, ◌∷◌, [], true, map, option_map};
-ghost use Rattle.dwc_native.specs.BuiltExpressions.{built_over, built_on_ranges};
+ghost use Rattle.std.specs.Prelude.{◌≡◌, ◌∷◌, [], IfOk, true, map, option_map};
+ghost use Rattle.dwc_native.specs.BuiltExpressions.{built_over, built_on_ranges, IsBounded};
 ghost use Rattle.dwc_native.specs.Parts.{CompiledParts, single_code as code_alone};
 ghost use Rattle.dwc_native.specs.Placed.{built_parts, scope_ranges};
 ghost use Rattle.dwc_expr.specs.Alone.{lone_part};
-ghost use Rattle.dwc_expr.specs.Builds.{surroundings, Builds};
+ghost use Rattle.dwc_expr.specs.BuiltMeanings.{BuiltMean};
+ghost use Rattle.dwc_expr.specs.Builds.{surroundings, built_view, Builds};
 ghost use Rattle.dwc_expr.specs.LabelRanges.{has_interval};
 ghost use Rattle.dwc_expr.specs.PartViews.{part_view};
 ghost use Rattle.dwc_expr.specs.NeededLabels.{numbers, HaveSameFirsts};
 ghost use Rattle.dwc_expr.specs.PartsToBuild.{all_parts, labels_needed};
-ghost use Rattle.dwc_expr.specs.WholeParts.{JumpsLand};
+ghost use Rattle.dwc_expr.specs.WholeParts.{IsWhole, JumpsLand};
 
 use crate::build::alone::{LoneLocal, build_alone, one_range};
 use crate::build::copies::copied;
@@ -40,13 +41,17 @@ impl CompiledExpression {
     /// which the values that it needs lie at unchanged places in the frame of a function, if one is given. Operations that stay as they
     /// are alone are copied for each native range of the scope. Over no interval it becomes nothing.
     ///
+    /// Where what the code generator told is bounded, the bytes on each range mean what the expression means. They run as its parts with
+    /// the places of the range: step for step, with the same stack, pieces and mark, and they stop where the parts stop. Where the
+    /// expression has a meaning in WebAssembly that can be kept, they have its result: the same low 32 bits, or the address in linear
+    /// memory as one of the native code. An expression that is the place of one label becomes the register or the address of that place.
+    ///
     /// # Errors
     /// In this order, and each exactly where it says: `BadLabelRange` where a label that is needed has a range in the frame that begins
     /// above its end, the first in the order of parts. `InvalidAttributeValue` where it reads linear memory, its values have places on
     /// some byte of the scope, and the frame's module has no memory; `UnmappedRegister` where on such a byte a value lies in a register
     /// for which the target has no number, the first in the order of bytes and then of parts. `TooLarge` where a jump would go further
     /// than 16 bits with a sign say. `OutOfMemory` for want of memory.
-    #[tactic(auto, unfolding(dwc_native::specs::BuiltExpressions::built_over))]
     pub fn build_with_locals(
         &self,
         alloc: Global,
@@ -55,15 +60,32 @@ impl CompiledExpression {
         frame_info: Option<&FunctionFrameInfo<'_>>,
         isa: &dyn TargetIsa,
     ) -> Result<BuiltCompiledExpression, ExprError>
-        ensures { Builds (built_over (surroundings addr_tr.now (option_map (λ f. f.now) frame_info.entry) (dwarf_registers isa.now)) scope.now self.now) result }
+        ensures built { Builds (built_over (surroundings addr_tr.now (option_map (λ f. f.now) frame_info.entry) (dwarf_registers isa.now)) scope.now self.now) result }
+        ensures means { IfOk result (λ built. IsBounded (surroundings addr_tr.now (option_map (λ f. f.now) frame_info.entry) (dwarf_registers isa.now)) → BuiltMean (surroundings addr_tr.now (option_map (λ f. f.now) frame_info.entry) (dwarf_registers isa.now)) scope.now self.now (built_view built)) }
     {
+        self.build_on_scope(alloc, scope, addr_tr, frame_info, isa)
+    }
+
+    // The same; and the expression is whole.
+    #[tactic(auto, unfolding(dwc_native::specs::BuiltExpressions::built_over))]
+    fn build_on_scope(
+        &self,
+        alloc: Global,
+        scope: &[(u64, u64)],
+        addr_tr: &AddressTransform<'_>,
+        frame_info: Option<&FunctionFrameInfo<'_>>,
+        isa: &dyn TargetIsa,
+    ) -> Result<BuiltCompiledExpression, ExprError>
+        ensures built { Builds (built_over (surroundings addr_tr.now (option_map (λ f. f.now) frame_info.entry) (dwarf_registers isa.now)) scope.now self.now) result }
+        ensures whole { IsWhole self.now }
+    {
+        let parts = self.parts.as_slice();
         if scope.is_empty() {
             return Ok(BuiltCompiledExpression {
                 expressions: Vec::new(alloc),
                 covers_entire_scope: false,
             });
         }
-        let parts = self.parts.as_slice();
         match single_code(parts) {
             Some(code) => Ok(copied(alloc, scope, addr_tr, code)?),
             None => {

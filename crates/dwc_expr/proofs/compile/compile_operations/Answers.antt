@@ -7,6 +7,7 @@ use Rattle.dwc_expr.specs.Compiles.{Compiles}
 use Rattle.dwc_expr.specs.Steps.{held, supported_operations}
 use Rattle.dwc_expr.specs.Supported.{compiled_supported}
 use Rattle.dwc_expr.proofs.CompileLaws.{base-given, compiled-none, compiled-some, compiled-told, supported-within, told-too}
+use Rattle.dwc_expr.proofs.Meaning.CompiledWhole.{compiled-parts-are-whole, compiles-whole}
 use Rattle.dwc_expr.proofs.WholeLaws.{compiles-land}
 use Rattle.dwc_expr.proofs.compile.compile_operations.Goals as goal
 
@@ -37,6 +38,19 @@ returns-in-Some-clause-parts c =
 
 pub returns-in-Some-clause-lands : goal.returns-in-Some-clause-lands
 returns-in-Some-clause-lands c = compiles-land (option_map (λ x. x.now) c.args.frame_base) c.args.bytes.now c.compile_steps.result (returns-in-Some-clause-parts c)
+
+pub returns-in-Some-clause-whole : goal.returns-in-Some-clause-whole
+returns-in-Some-clause-whole c = compiles-whole (option_map (λ x. x.now) c.args.frame_base) c.args.bytes.now c.compile_steps.result c.requires.whole (returns-in-Some-clause-parts c)
+
+pub compile_steps-requires-clause-whole : goal.compile_steps-requires-clause-whole
+compile_steps-requires-clause-whole c = λ x is.
+    let base = option_map (λ x. x.now) c.args.frame_base in
+    let bytes = c.args.bytes.now in
+    let free : holds_jump base ≡ false = c.requires.free in
+    let given : c.is_some.result ≡ is_some base = c.is_some.ensures ∙ base-given (λ x. x.now) c.args.frame_base in
+    let are : supported_operations c.is_some.result bytes ≡ Ok (Some c.in-Some.steps.items) = c.in_ok-steps.ensures ∙ ap (λ x. Ok (held x)) c.in-Some.is in
+    let same = compiled-some base bytes free c.in-Some.steps.items (ap (λ b. supported_operations b bytes) (sym given) ∙ are) ∙ ap (λ (os : List Operation). compiled_supported base (length bytes) os) (sym c.deref.ensures.value) in
+    compiled-parts-are-whole base bytes x c.requires.whole (same ∙ is)
 
 pub returns-in-None-clause-parts : goal.returns-in-None-clause-parts
 returns-in-None-clause-parts c =

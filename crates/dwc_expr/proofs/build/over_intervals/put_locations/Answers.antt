@@ -21,7 +21,7 @@ returns-then-holds_jump-clause-puts g c =
     let registers : Registers = (goal.TargetIsa-dyn g c.args.isa.now).dwarf_registers c.args.isa.now.1 in
     let s : Surroundings = surroundings c.args.addr_tr.now (option_map (λ (x : Bor FunctionFrameInfo). x.now) c.args.frame_info) registers in
     let base = option_map (λ x. x.now) c.args.frame_base in
-    none-put s (c.args.interval ∷ []) c.args.locations.now.items (compiled base c.args.bytes.now) (compiled-held base c.args.bytes.now (sym c.holds_jump.ensures ∙ c.if-holds_jump.true))
+    none-put s (c.args.interval ∷ []) c.args.locations.now.items (compiled base c.args.bytes.now) (compiled-held base c.args.bytes.now (sym c.holds_jump.ensures.jump ∙ c.if-holds_jump.true))
 
 pub returns-in_ok-put_label-in-Some-clause-puts : goal.returns-in_ok-put_label-in-Some-clause-puts
 returns-in_ok-put_label-in-Some-clause-puts g c =
@@ -29,7 +29,7 @@ returns-in_ok-put_label-in-Some-clause-puts g c =
     let s : Surroundings = surroundings c.args.addr_tr.now (option_map (λ (x : Bor FunctionFrameInfo). x.now) c.args.frame_info) registers in
     let base = option_map (λ x. x.now) c.args.frame_base in
     parts-put s (c.args.interval ∷ []) c.args.locations.now.items (compiled base c.args.bytes.now) c.put_label.new.locations.items (label_alone c.in-Some.label.0)
-    (c.in-Some.ensures base (sym c.holds_jump.ensures ∙ c.if-holds_jump.false)) c.in_ok-put_label-in-Some.ensures.puts
+    (c.in-Some.ensures base (sym c.holds_jump.ensures.jump ∙ c.if-holds_jump.false)) c.in_ok-put_label-in-Some.ensures.puts
 
 pub returns-in_err-put_label-in-Some-clause-puts : goal.returns-in_err-put_label-in-Some-clause-puts
 returns-in_err-put_label-in-Some-clause-puts g c =
@@ -39,4 +39,4 @@ returns-in_err-put_label-in-Some-clause-puts g c =
     let p = err_from_is_err_and c.from_residual.result c.from_residual.ensures.1 in
     rw (p.1, p.2)
     (parts-refused s (c.args.interval ∷ []) c.args.locations.now.items (compiled base c.args.bytes.now) c.put_label.new.locations.items (label_alone c.in-Some.label.0)
-    (c.in-Some.ensures base (sym c.holds_jump.ensures ∙ c.if-holds_jump.false)) _ c.in_err-put_label-in-Some.ensures.puts)
+    (c.in-Some.ensures base (sym c.holds_jump.ensures.jump ∙ c.if-holds_jump.false)) _ c.in_err-put_label-in-Some.ensures.puts)
