@@ -11,4 +11,4 @@ pub returns-clause-fits : goal.returns-clause-fits
 returns-clause-fits g c = λ size.
     let fs = c.args.addr_tr.now in
     let s = surroundings fs (option_map (λ f. f.now) c.args.frame_info) ((goal.TargetIsa-dyn g c.args.isa.now).dwarf_registers c.args.isa.now.1) in
-    fits-built-over fs (c.translations_are_said.ensures fs c.requires.functions) s refl c.args.scope_ranges.now _ (built_view c.in_ok-built.built) size DW_AT_location c.new.result refl c.in_ok-built.ensures (ap (λ (l : LocationList). map location_of l.locations.items) c.new.ensures)
+    fits-built-over fs (c.translations_are_said.ensures fs c.requires.functions) s refl c.args.scope_ranges.now _ (built_view c.in_ok-built.built) size DW_AT_location c.new.result refl c.in_ok-built.ensures.built (ap (λ (l : LocationList). map location_of l.locations.items) c.new.ensures)
