@@ -53,3 +53,4 @@ pub mod SimulatedModuleLaws
 pub mod SimulatedUnitMade
 mod OutputNameLaws
 pub mod SettledLaws
+pub mod Meaning

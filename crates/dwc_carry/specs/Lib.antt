@@ -23,3 +23,4 @@ pub mod Transformed
 pub mod Emits
 pub mod SimulatedNames
 pub mod LocalGroups
+pub mod MeaningsCarried

@@ -1,7 +1,9 @@
 //! Emits the DWARF of a compilation for the native code of its functions.
-ghost use Rattle.std.specs.Prelude.{◌≡◌, ◌⊎◌, false, is_some, true, IfErr, IfOk, OnOk};
+ghost use Rattle.std.specs.Prelude.{◌≡◌, ◌⊎◌, false, is_some, map, true, IfErr, IfOk, OnOk};
+ghost use Rattle.dwc_base.specs.Outputs.{section_view};
 ghost use Rattle.dwc_carry.specs.Emits.{Carries, Emits, IsReady};
-ghost use Rattle.dwc_carry.specs.Inputs.{counted_behind, refused_before_path};
+ghost use Rattle.dwc_carry.specs.Inputs.{counted_behind, input_of, refused_before_path};
+ghost use Rattle.dwc_carry.specs.MeaningsCarried.{OutputMeans};
 ghost use Rattle.dwc_carry.specs.Refusals.{memory, told};
 
 use crate::DebugError;
@@ -83,6 +85,10 @@ pub fn carry_dwarf(
 /// counter of names, which rises where the path of the unit for functions without debugging information is made of it: not where an address
 /// map, a length or a module is refused. The work is linear in what is read and written.
 ///
+/// Where what is told of the modules is bounded, the expressions of the output mean what those of the input do: each location that an entry
+/// states for native bytes is of an expression of the entry that it was made of, runs as that expression's parts with the places that its
+/// values have on these bytes, and keeps its meaning in WebAssembly, where it has one. A place of one local is the register or the slot.
+///
 /// # Errors
 /// `BadAddressMap` exactly where a function's address map breaks a rule: the first module, its first such function, and the
 /// first rule. Where no map does: `TooLarge` `Addend` exactly where a function with a symbol is longer than 2^31 - 1 bytes. Where
@@ -99,6 +105,7 @@ pub fn emit_dwarf(
     compilation: &mut Compilation<'_>,
 ) -> Result<Vec<DwarfSection>, DebugError>
     ensures sections { Emits (byte_order isa.now) (pointer_size isa.now) (dwarf_registers isa.now) (common_entry isa.now) compilation.old result }
+    ensures means { IfOk result (λ s. OutputMeans (input_of (byte_order isa.now) (pointer_size isa.now) (dwarf_registers isa.now) (common_entry isa.now) compilation.old) (map section_view s.items)) }
     ensures counter { OnOk result (compilation.new ≡ counted_behind (dwarf_registers isa.now) compilation.old) }
     ensures refused { IfErr result (λ e. (compilation.new ≡ compilation.old) ⊎ (compilation.new ≡ counted_behind (dwarf_registers isa.now) compilation.old)) }
     ensures early { is_some (refused_before_path (dwarf_registers isa.now) compilation.old) ≡ true → compilation.new ≡ compilation.old }

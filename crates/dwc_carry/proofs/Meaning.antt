@@ -1,0 +1,10 @@
+pub mod AttributeMeanings
+pub mod EmitMeanings
+pub mod EntryMeanings
+pub mod ExpressionMeanings
+pub mod KeptDrafts
+pub mod ListMeanings
+pub mod PlacedBytes
+pub mod StatedMeanings
+pub mod ToldBounds
+pub mod UnitMeanings
