@@ -2,6 +2,7 @@
 ghost use Rattle.std.specs.Prelude.{◌≡◌, ◌≢◌, ◌<◌, ◌≤◌, ◌↔◌, ◌∷◌, [], map, string_bytes};
 ghost use Rattle.dwc_cli.specs.Calls.{ReadsFront, WritesUntilFailure};
 ghost use Rattle.dwc_cli.specs.Inputs.{named_paths};
+ghost use Rattle.dwc_cli.specs.RunMeanings.{RunMeans};
 ghost use Rattle.dwc_cli.specs.RunStatus.{Rose, Succeeds, UsageCause, MissingCause, InputCauses, PrefixWritten, IsStatus, IsOneOf, ReadsAll, RunsWell, SaysOfRead, most_bytes};
 ghost use Rattle.dwc_cli.specs.Failures.{failure_status, failure_message, IsOnOneLine};
 ghost use Rattle.dwc_cli.specs.Answers.{Tells, Complains};
@@ -32,6 +33,9 @@ pub fn run<S: Source, K: Sink, E: Sink>(
 ) -> u8
     // 0: the printed sections hold exactly the images of the input's carried line sequences.
     ensures carried { result ≡ 0 → Succeeds (S.files source.old) (map string_bytes words.now) (K.written out.old) (K.written out.new) }
+
+    // And their expressions mean what those of the input do, where what is told of its modules is bounded.
+    ensures means { result ≡ 0 → RunMeans (S.files source.old) (map string_bytes words.now) (S.asked source.old) (S.asked source.new) (K.written out.old) (K.written out.new) }
 
     // Every other status has its cause, and want of memory, 9, may come at any time.
     ensures usage { UsageCause (map string_bytes words.now) result }

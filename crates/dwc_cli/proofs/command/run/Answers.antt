@@ -10,6 +10,7 @@ use Rattle.dwc_cli.proofs.CallLaws.{ReadsFront-none, ReadsFront-status, ReadsFro
 use Rattle.dwc_cli.proofs.Statuses.{IsOneOf-from, IsOneOf-more, IsOneOf-other}
 use Rattle.dwc_cli.proofs.Messages.{IsMessage-usage, IsMessage-reading, IsMessage-text, IsMessage-write}
 use Rattle.dwc_cli.proofs.RunExits.{InputCauses-reading, InputCauses-text, MissingCause-read, ReadsAll-early, ReadsAll-read, SaysOfRead-front, SaysOfRead-reading, SaysOfRead-status, SaysOfRead-text, SaysOfRead-usage, SaysOfRead-written, Succeeds-read, PrefixWritten-read, TextCauses-write, only_memory, complete_read}
+use Rattle.dwc_cli.proofs.RunMeaningLaws.{run-means}
 use Rattle.dwc_cli.proofs.command.run.Goals as goal
 
 pub returns-in_default-clause-said : goal.returns-in_default-clause-said
@@ -244,3 +245,7 @@ returns-clause-of_read g c =
     let read = c.in-Ok.ensures.input in
     let says = SaysOfRead-front (g.S.Source.files c.args.source.now) words (paths_view c.in-Some.paths) read.0 (printed (map section_view c.in-Ok-sections_of.sections.items)) _ _ _ _ _ _ _ _ read.2 read.3 (TextCauses-write read.0 (c.in-Ok-sections_of.ensures.causes read.0 read.1)) (c.in-Ok-sections_of.ensures.carried read.0 read.1) (rw c.deref.ensures.value at c.in-Err-print_sections.ensures.front) c.in-Err-print_sections.ensures.cause.failed in
     SaysOfRead-status words 8 _ _ _ _ _ _ _ _ _ c.refuse-in-Err-print_sections.ensures.status says
+
+pub returns-in-Ok-print_sections-clause-means : goal.returns-in-Ok-print_sections-clause-means
+returns-in-Ok-print_sections-clause-means g c = λ zero.
+    run-means (g.S.Source.files c.args.source.now) (map string_bytes c.args.words.now) _ _ _ _ _ _ _ _ _ zero (returns-in-Ok-print_sections-clause-carried g c zero) (returns-in-Ok-print_sections-clause-of_read g c)
