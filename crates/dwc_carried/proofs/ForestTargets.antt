@@ -38,7 +38,7 @@ use Rattle.dwc_dwarf.specs.Texts.{text_named}
 use Rattle.dwc_rules.specs.Targets.{target_of}
 use Rattle.dwc_dwarf.specs.TreeLaws.{HasAllTargets, goes_somewhere}
 use Rattle.dwc_rules.specs.KeptModules.{carried_in, kept_in}
-use Rattle.dwc_rules.specs.Clones.{UnitSource, is_dropped_name, is_bound_name, is_file_name, constant_form, file_number, constant_becomes, text_drafted, text_becomes, value_becomes, nothing_unless, bound_becomes, table_becomes, attribute_becomes, attributes_become, if_made, endianity, attributes_made}
+use Rattle.dwc_rules.specs.Clones.{UnitSource, is_dropped_name, is_bound_name, is_file_name, constant_form, file_number, constant_becomes, text_drafted, text_becomes, value_becomes, nothing_unless, bound_becomes, table_becomes, attribute_becomes, attributes_become, if_made, endianity, attributes_made, number_written}
 use Rattle.dwc_rules.specs.CarriedDrafts.{source_of, draft_of, draft_told, entry_made, unit_drafts, carried_drafts}
 use Rattle.dwc_rules.specs.LocationAttributes as LocationAttributes
 use Rattle.dwc_rules.specs.LocationAttributes.{LocationRefusal, ListedExpression, value_of_expression, value_of_locations, read_expression, read_locations}
@@ -69,7 +69,7 @@ module _ (Has : Goal → Type 0) (plain : (offset : ℕ) → Has (made_of offset
   value-made name v says y is = some_same (SaysNoPlace Has) (name, v) y is says
 
   constant-made : (name : ℕ) (s : UnitSource) (form bits : ℕ) → MakesNoPlace name (Ok (option_map done (constant_becomes s name form bits)))
-  constant-made name s form bits = go (is_file_name name) (file_number s.version s.table bits)
+  constant-made name s form bits = go (is_file_name name) (number_written s.output_version (file_number s.version s.table bits))
     where
       go : (is_file : Bool) (number : Option ℕ) → MakesNoPlace name (Ok (option_map done (if is_file then option_map (constant DW_FORM_udata) number else Some (constant (constant_form form) bits))))
       go false number = value-made name (done (constant (constant_form form) bits)) refl

@@ -10,3 +10,4 @@ pub mod SimulatedFunctions
 pub mod SimulatedUnit
 pub mod SimulatedUnitRules
 pub mod SimulatedLocations
+pub mod WidestVersions

@@ -1,6 +1,6 @@
 -- What it means that an output carries an input: its lines, its entries and no others, their scopes and locations, and the form that every
 -- reader and linker relies on. (DWARF 4, chapters 2 and 6 and section 7.5.)
-use Rattle.std.specs.Prelude.{◌≡◌, ℕ, ◌+◌, List, sum_by, true, Ok, All}
+use Rattle.std.specs.Prelude.{◌≡◌, ℕ, ◌+◌, List, sum_by, true, if◌then◌else◌, Ok, All}
 use Rattle.dwc_base.specs.declared.section_name.SectionName.{SectionName}
 use Rattle.dwc_base.specs.declared.section_name.SectionName.TheVariants.{Frame, Line}
 use Rattle.dwc_base.specs.Outputs.{OutputSection, output_sections}
@@ -21,6 +21,9 @@ use Rattle.dwc_carried.specs.SimulatedUnitRules.{widest_simulated}
 use Rattle.dwc_carried.specs.SimulatedFunctions.{is_begun}
 use Rattle.dwc_output.specs.WidestTrees.{widest_of_trees}
 use Rattle.dwc_output.specs.Widest.{widest_table}
+use Rattle.dwc_output.specs.Versions.{is_old}
+use Rattle.dwc_output.specs.OwnDirectories.{AreOfVersion5}
+use Rattle.dwc_carried.specs.WidestVersions.{widest_5}
 
 -- how long the line table of a carried unit can be at most
 abbrev pub widest_lines_of : CarriedUnit → ℕ
@@ -28,7 +31,7 @@ widest_lines_of u = widest_table u.module_of.functions (table_of_unit u.module_o
 
 -- An output carries an input, of which nothing is refused: its lines; the trees of its forest, and no others, whose references all name
 -- entries of these trees; the scopes, the locations and the contexts of the entries that these are made of; equal texts in one place; in
--- units of version 4 with addresses of the target's size; in sections of names of their own, and none that an output has not, whose
+-- units of the version that is asked for, with addresses of the target's size; in sections of names of their own, and none that an output has not, whose
 -- relocations are those of the fields in them; and the frames of its functions, byte for byte.
 pub record OutputCarried (c : Compilation) (sections : List OutputSection) : Type 0 where
   pub lines : LinesCarried c sections
@@ -40,15 +43,20 @@ pub record OutputCarried (c : Compilation) (sections : List OutputSection) : Typ
   pub locations : LocationsCarried (drafts_of (is_big c.order)) (wanted_units c) wanted
   pub contexts : ContextsCarried (drafts_of (is_big c.order)) (wanted_units c) wanted
   pub texts : HasTextsOnce (output_sections c.order sections)
-  pub form : HaveTargetForm c.pointer_bytes (units (output_sections c.order sections)).items
+  pub form : HaveTargetForm c.version c.pointer_bytes (units (output_sections c.order sections)).items
   pub names : HasDistinctNames sections
-  pub known : are_of_output sections ≡ true
+  pub known : are_of_output c.version sections ≡ true
+  pub of_5 : AreOfVersion5 c.version (output_sections c.order sections) (units (output_sections c.order sections)).items
   pub relocated : All (IsRelocated (output_sections c.order sections)) (others_in sections)
   pub frames : FramesCarried c.order c.pointer_bytes c.common_entry (frame_descriptions c) sections
 
--- How long a section of the output of an input can be at most: the line tables with the images of the carried sequences and of the
+-- How long a section of an output of version 4 can be at most: the line tables with the images of the carried sequences and of the
 -- simulated functions, what says the trees of all units, and the frames.
+abbrev pub widest_4 : SectionName → Compilation → ℕ
+widest_4 Line c = sum_by widest_lines_of (carried_units c) + widest_simulated (is_begun c.modules) c.next_id c.modules
+widest_4 Frame c = widest_frames c.common_entry (frame_descriptions c)
+widest_4 name c = widest_of_trees name (trees_made c)
+
+-- The same in the version that is written.
 abbrev pub widest : SectionName → Compilation → ℕ
-widest Line c = sum_by widest_lines_of (carried_units c) + widest_simulated (is_begun c.modules) c.next_id c.modules
-widest Frame c = widest_frames c.common_entry (frame_descriptions c)
-widest name c = widest_of_trees name (trees_made c)
+widest name c = if is_old c.version then widest_4 name c else widest_5 name c

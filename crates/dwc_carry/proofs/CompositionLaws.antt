@@ -39,7 +39,7 @@ use Rattle.dwc_carry.proofs.MadeLaws.{all-both, all-flat, made-in-order, texts_o
 module _ (at : ℕ → ℕ → Option (ℕ × ℕ)) (size : ℕ) (texts : List (List ℕ)) where
   -- a line table that is read back carries the table that it was made of
   carries-lines : (s : Sections) (c : CarriedUnit) (g : GivenLines) (v : Unit) (t : Option LineTable) → table_of_unit c.module_of.sections c.unit ≡ Ok t → HasNamesOf t g
-      → AllZip (IsImageOf c.module_of.functions) (filter (is_carried_segment c.module_of.functions) (segments_of t)) (given_segments g) → ReadsLines s v g g.address_size → CarriesUnit s c v
+      → AllZip (IsImageOf c.module_of.functions) (filter (is_carried_segment c.module_of.functions) (segments_of t)) (given_segments g) → ReadsLines s v g g.address_size → CarriesUnit 4 s c v
   unfolding segments_of_unit
   carries-lines s c g v None is_read names images read = record {
     input = None;
@@ -57,7 +57,7 @@ module _ (at : ℕ → ℕ → Option (ℕ × ℕ)) (size : ℕ) (texts : List (
         input_read = is_read;
         made = Some back.table;
         made_read = back.table_read;
-        kept = record { version = back.version; directories = back.directories ∙ names.directories; files = back.files ∙ names.files };
+        kept = record { version_is = back.version; directories = back.directories ∙ names.directories; files = back.files ∙ names.files };
         carried = record {
           input = segments t;
           input_read = ap (λ x. x >>= λ t. Ok (segments_of t)) is_read;
@@ -66,7 +66,7 @@ module _ (at : ℕ → ℕ → Option (ℕ × ℕ)) (size : ℕ) (texts : List (
       }
 
   -- a unit that is read back carries what it was made of
-  carries-unit : (s : Sections) (w : WantedUnit) (u : GivenUnit) (v : Unit) → HasWantedLines w u → IsReadUnit s (ordered u) v → HasLines s w v
+  carries-unit : (s : Sections) (w : WantedUnit) (u : GivenUnit) (v : Unit) → HasWantedLines w u → IsReadUnit s (ordered u) v → HasLines 4 s w v
   carries-unit s synthetic_unit u v lines read = subst (ReadsLines s v u.lines) (ap (λ (g : GivenLines). g.address_size) lines) read.lines
   carries-unit s (carried_unit c) u v lines read = carries-lines s c u.lines v lines.table lines.table_read lines.names lines.images read.lines
   carries-unit s (unit_of_simulated name translated ms) u v lines read =
@@ -74,13 +74,13 @@ module _ (at : ℕ → ℕ → Option (ℕ × ℕ)) (size : ℕ) (texts : List (
       record {
         made = back.table;
         made_read = back.table_read;
-        version = back.version;
+        version_is = back.version;
         directories = back.directories ∙ lines.names.directories;
         files = back.files ∙ lines.names.files;
         each = subst (AllZip (λ f segment. IsSimulated name f.0 f.1 segment) (simulated_in_files translated ms)) (sym back.sequences) lines.segments;
       }
 
-  carries-units : (s : Sections) (number : ℕ) (cs : List WantedUnit) (ts : List Tree) (us : List GivenUnit) (vs : List Unit) → AreMadeOf at size texts number cs ts us → AllZip (IsReadUnit s) (map ordered us) vs → AllZip (HasLines s) cs vs
+  carries-units : (s : Sections) (number : ℕ) (cs : List WantedUnit) (ts : List Tree) (us : List GivenUnit) (vs : List Unit) → AreMadeOf at size texts number cs ts us → AllZip (IsReadUnit s) (map ordered us) vs → AllZip (HasLines 4 s) cs vs
   carries-units s number [] [] [] [] made read = tt
   carries-units s number [] [] [] (v ∷ vs) made read = absurd read
   carries-units s number [] [] (u ∷ us) vs made read = absurd made
@@ -92,12 +92,14 @@ module _ (at : ℕ → ℕ → Option (ℕ × ℕ)) (size : ℕ) (texts : List (
 
   -- Sections from which such units are read back carry the lines.
   pub lines-carried : (c : Compilation) (ts : List Tree) (us : List GivenUnit) (s : List OutputSection)
-      → ReadsBack c.order (map ordered us) s → AreMadeOf at size texts 0 (wanted_units c) ts us → All (λ m. (units m.sections).fault ≡ None) c.modules → LinesCarried c s
-  lines-carried c ts us s back made whole = record {
+      → ReadsBack c.order (map ordered us) s → AreMadeOf at size texts 0 (wanted_units c) ts us → All (λ m. (units m.sections).fault ≡ None) c.modules → c.version ≡ 4 → LinesCarried c s
+  lines-carried c ts us s back made whole version_is = record {
     whole = whole;
     output = back.read;
     output_read = back.units_read;
-    each = carries-units (output_sections c.order s) 0 (wanted_units c) ts us back.read made back.each;
+    each =
+        subst (λ version. AllZip (HasLines version (output_sections c.order s)) (wanted_units c) back.read) (sym version_is)
+        (carries-units (output_sections c.order s) 0 (wanted_units c) ts us back.read made back.each);
   }
 
   -- all have addresses of one size

@@ -125,11 +125,11 @@ module _ (order : Endian) (size : ℕ) (registers : Registers) (entry : Option C
 
       -- what is written is emitted
       pub emits-sections : (s : Vec DwarfSection Global) → ReadsBack order (map ordered us) (map section_view s.items) → CarriesTrees order (given_trees texts (map ordered us)) (map section_view s.items) → HasTextsOnce (output_sections order (map section_view s.items))
-          → ((n : ℕ) → All (λ u. u.address_size ≡ n) us → HaveTargetForm n (units (output_sections order (map section_view s.items))).items)
+          → ((n : ℕ) → All (λ u. u.address_size ≡ n) us → HaveTargetForm 4 n (units (output_sections order (map section_view s.items))).items)
           → frames.told_refusal {A = Vec DwarfSection Global} (Ok s) ≡ frames.first_refusal (frames.refused_frames table)
           → (frames.first_refusal (frames.refused_frames table) ≡ None → ◌≡◌ {A = Result (Vec DwarfSection Global) WriteError} (Ok s) (Err (write.TooLarge Expression)) ↔ (have_short_expressions (given_trees texts (map ordered us)) ≡ false))
           → HasDistinctNames (map section_view s.items) → All (IsRelocated (output_sections order (map section_view s.items))) (others_in (map section_view s.items))
-          → FramesCarried order (size_of (map ordered us)) (frames.common_given table) (frames.descriptions_given table) (map section_view s.items) → All (IsSound order) (map section_view s.items) → AreSpelled order (map section_view s.items) → are_of_output (map section_view s.items) ≡ true
+          → FramesCarried order (size_of (map ordered us)) (frames.common_given table) (frames.descriptions_given table) (map section_view s.items) → All (IsSound order) (map section_view s.items) → AreSpelled order (map section_view s.items) → are_of_output 4 (map section_view s.items) ≡ true
           → ((fs : List Function) → TranslationsKeepScopes fs) → MapsNumber → Emits order size registers entry c (Ok s)
       emits-sections s back says once form good long names relocated framed_so sound spelled known keep number_maps =
           let sizes = made-sizes (place_at us) size texts 0 (wanted_units input) (trees_made input) us t.made in
@@ -137,7 +137,7 @@ module _ (order : Endian) (size : ℕ) (registers : Registers) (entry : Option C
             none,
             record {
               output = record {
-                lines = lines-carried (place_at us) size texts input (trees_made input) us (map section_view s.items) back t.made t.whole;
+                lines = lines-carried (place_at us) size texts input (trees_made input) us (map section_view s.items) back t.made t.whole refl;
                 wanted = given_trees texts (map ordered us);
                 is_forest = forest-is input (unmapped in_reading (first_refusal input) (second-none (maps_refusal c) (option_map in_reading (first_refusal input)) none)) ∙ ap (λ (ts : List Tree). Ok ts) (sym same-trees);
                 trees = says;
@@ -149,6 +149,7 @@ module _ (order : Endian) (size : ℕ) (registers : Registers) (entry : Option C
                 form = form size sizes;
                 names = names;
                 known = known;
+                of_5 = λ is. absurd (omega (arith, is));
                 relocated = relocated;
                 frames = framed_so ∙ table-section (frame_descriptions input) order (size_of (map ordered us)) entry table framed ∙ section-sized order size entry (frame_descriptions input) us sizes described-there;
               };

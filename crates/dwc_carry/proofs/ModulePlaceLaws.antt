@@ -50,7 +50,7 @@ module _ (m : KeptModule) (first : ℕ) where
     pub places-rise : IsKept m → 0 < length os → IsNonDecreasingBy (λ offset. offset) (offsets_of places ++ os)
     places-rise k some =
         let behind = numbered_lists (suc number) (emitted m.kept (drop (i + 1) m.units.items)) in
-        let c : Module = record { sections = k.sections; functions = k.functions; told = nothing_told; file = bare_file 0; compressed = None } in
+        let c : Module = record { sections = k.sections; functions = k.functions; told = nothing_told; file = bare_file 0; compressed = None; version = 4 } in
         let whole : offsets_of (numbered_lists first (emitted m.kept m.units.items)) ≡ (offsets_of places ++ os) ++ offsets_of behind =
         ap offsets_of (sym (places-more some))
         ∙ offsets-behind (places ++ numbered number 0 os) behind

@@ -51,7 +51,7 @@ frames-in_order order size None ds = refl
 frames-in_order order size (Some c) [] = refl
 frames-in_order order size (Some c) (d ∷ ds) = refl
 
-units-in_order : (order : Endian) (texts : List (List ℕ)) (us : List OrderedUnit) (frames : List OutputSection) → stand_in_order (Frame ∷ []) frames ≡ true → are_of_output (spelled_sections order texts us ++ frames) ≡ true
+units-in_order : (order : Endian) (texts : List (List ℕ)) (us : List OrderedUnit) (frames : List OutputSection) → stand_in_order (Frame ∷ []) frames ≡ true → are_of_output 4 (spelled_sections order texts us ++ frames) ≡ true
 units-in_order order texts us frames last =
     let places = all_places order texts us in
     let size = size_of us in
@@ -67,7 +67,7 @@ units-in_order order texts us frames last =
     ∙ ap (λ ss. entries ++ ss) (append_assoc lines (ranges ++ (locations ++ strings)) frames
     ∙ ap (λ ss. lines ++ ss) (append_assoc ranges (locations ++ strings) frames
     ∙ ap (λ ss. ranges ++ ss) (append_assoc locations strings frames)))) in
-    ap are_of_output grouped
+    ap (are_of_output 4) grouped
     ∙ in-front Abbrev (Info ∷ Line ∷ Ranges ∷ Loc ∷ Str ∷ Frame ∷ []) (abbrev_bytes order places us) [] (entries ++ (lines ++ (ranges ++ (locations ++ (strings ++ frames))))) refl
     (in-front Info (Line ∷ Ranges ∷ Loc ∷ Str ∷ Frame ∷ []) (all_info_bytes order places us) (info_relocations order size 0 (units_placed order places us)) (lines ++ (ranges ++ (locations ++ (strings ++ frames)))) refl
     (in-front Line (Ranges ∷ Loc ∷ Str ∷ Frame ∷ []) (all_lines_bytes order us) (lines_relocations order size 0 (written_tables us)) (ranges ++ (locations ++ (strings ++ frames))) refl
@@ -75,6 +75,6 @@ units-in_order order texts us frames last =
     (in-front Loc (Str ∷ Frame ∷ []) (all_lists_bytes locations_in order us) (all_lists_relocations locations_in order us) (strings ++ frames) refl
     (in-front Str (Frame ∷ []) (strings_bytes texts us) [] frames refl last)))))
 
-pub written-of_output : (order : Endian) (texts : List (List ℕ)) (us : List GivenUnit) (table : Option FrameTable) → are_of_output (spelled_sections order texts (map ordered us) ++ given_frames order table us) ≡ true
+pub written-of_output : (order : Endian) (texts : List (List ℕ)) (us : List GivenUnit) (table : Option FrameTable) → are_of_output 4 (spelled_sections order texts (map ordered us) ++ given_frames order table us) ≡ true
 written-of_output order texts us table =
     units-in_order order texts (map ordered us) (given_frames order table us) (frames-in_order order (size_of (map ordered us)) (common_given table) (descriptions_given table))

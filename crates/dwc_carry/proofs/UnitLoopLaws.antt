@@ -317,7 +317,7 @@ module _ (fs : List Function) (told : ToldModule) (m : KeptModule) (i : ℕ) (r 
 
 -- The module's own functions are the transform's, and what is told of it is told.
 pub of-itself : (c : Module) (fs : List Function) (told : ToldModule) (m : KeptModule) → IsOfModule c fs told m → IsOfModule c c.functions c.told m
-of-itself c fs told m of = record { functions = refl; told_is = refl; is = of.is; bytes = of.bytes }
+of-itself c fs told m of = record { functions = refl; told_is = refl; version_is = of.version_is; is = of.is; bytes = of.bytes }
 
 -- Places that stand from a number on stand behind the module's synthetic unit.
 pub places-behind : (m : KeptModule) (number own : ℕ) (places : List EmittedEntry) → number ≡ suc own → places ≡ numbered_lists number (emitted m.kept m.units.items) → places ≡ numbered_lists (suc own) (emitted m.kept m.units.items)

@@ -155,7 +155,7 @@ module _ (registers : Registers) (k : CloneSource) (compile : Bool) (table : Opt
         (subst (λ s. CarriesNamed c.functions s h size table k.files lines) same-sections
         (subst (λ fs. CarriesNamed fs k.unit.now.sections h size table k.files lines) same-functions carries))
 
-    from-lines : (o : Option ℕ) → table_offset (root u) ≡ o → CarriesNamed c.functions c.sections h size o k.files lines → KnownTable c u lines × AreFiles k.files h.version (readable_table (table_of_unit c.sections u))
+    from-lines : (o : Option ℕ) → table_offset (root u) ≡ o → CarriesNamed c.functions c.sections h size o k.files lines → KnownTable c u lines × AreFiles k.files 4 h.version (readable_table (table_of_unit c.sections u))
     unfolding named
     from-lines None is carries =
         let read : table_of_unit c.sections u ≡ Ok None = table-named c.sections u ∙ ap (named c.sections h) is in (
@@ -169,7 +169,7 @@ module _ (registers : Registers) (k : CloneSource) (compile : Bool) (table : Opt
             sized = sym (ap (λ (g : GivenLines). is_some g.address_size) carries.1);
             there = λ e at. refl;
           },
-          subst (λ t. AreFiles k.files h.version (readable_table t)) (sym read) carries.0,
+          subst (λ t. AreFiles k.files 4 h.version (readable_table t)) (sym read) carries.0,
         )
     from-lines (Some offset) is carries =
         let t = carries.table in
@@ -184,12 +184,14 @@ module _ (registers : Registers) (k : CloneSource) (compile : Bool) (table : Opt
             sized = sym (ap is_some carries.carries.address_size);
             there = λ e at. offset-has e offset (sym (ap table_offset at) ∙ is);
           },
-          subst (λ x. AreFiles k.files h.version (readable_table x)) (sym read) carries.files_are,
+          subst (λ x. AreFiles k.files 4 h.version (readable_table x)) (sym read) carries.files_are,
         )
 
-    pub files-known : CarriesNamed k.transform.now k.unit.now.sections h size table k.files lines → AreFiles k.files h.version (source_of (kept_of c) u).table
+    pub files-known : CarriesNamed k.transform.now k.unit.now.sections h size table k.files lines → AreFiles k.files (source_of (kept_of c) u).output_version h.version (source_of (kept_of c) u).table
     unfolding source_of kept_module
-    files-known carries = (from-lines (table_offset (root u)) refl (carried-there carries)).1
+    files-known carries =
+        subst (λ n. AreFiles k.files n h.version (readable_table (table_of_unit c.sections u))) (sym (of.module_is).version_is)
+        (from-lines (table_offset (root u)) refl (carried-there carries)).1
 
     table-known : CarriesNamed k.transform.now k.unit.now.sections h size table k.files lines → KnownTable c u lines
     table-known carries = (from-lines (table_offset (root u)) refl (carried-there carries)).0

@@ -287,7 +287,7 @@ module _ (k : CloneSource) (compile : Bool) (table : Option ℕ) (told : ToldMod
               ∙ keeps-placed c m is (read_of k compile table) in-carried unit-in (suc first) p e (contains-in (kept_of c).entries p emitted.among) there own (sym (placed-is p.entry.offset) ∙ emitted.kept) (keeps-parameter (kept_of c).entries e p parent tag);
         }
 
-    pub source-is : AreFiles k.files k.unit.now.header.version (source_of (kept_of c) unit_of).table → IsSource k number (source_of (kept_of c) unit_of)
+    pub source-is : AreFiles k.files (source_of (kept_of c) unit_of).output_version k.unit.now.header.version (source_of (kept_of c) unit_of).table → IsSource k number (source_of (kept_of c) unit_of)
     unfolding source_of kept_module
     source-is files = record {
       version = refl;

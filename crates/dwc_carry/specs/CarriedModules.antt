@@ -26,7 +26,7 @@ use Rattle.dwc_carry.specs.SimulatedDrafts.{ContextsStay}
 
 -- a module, with the functions that its transform keeps and what is told of it
 abbrev pub transformed_module : ModuleTranslation → List Function → ToldModule → Module
-transformed_module t fs told = record { sections = translation_sections t; functions = fs; told = told; file = told_file t; compressed = t.compressed }
+transformed_module t fs told = record { sections = translation_sections t; functions = fs; told = told; file = told_file t; compressed = t.compressed; version = 4 }
 
 -- ---- what is read of a module
 

@@ -43,6 +43,7 @@ use Rattle.dwc_carry.specs.ModulePlaces.{carried_offsets, emitted, numbered_list
 pub record IsOfModule (c : Module) (fs : List Function) (told : ToldModule) (m : KeptModule) : Type 0 where
   pub functions : c.functions ≡ fs
   pub told_is : c.told ≡ told
+  pub version_is : c.version ≡ 4
   pub is : IsKeptModule c.functions c.sections m
   pub bytes : All (λ b. b < 256) (c.sections.bytes Info)
 

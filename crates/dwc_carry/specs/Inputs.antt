@@ -30,9 +30,10 @@ told_from registers names place number [] offsets = []
 told_from registers names place number (fs ∷ fss) [] = []
 told_from registers names place number (fs ∷ fss) (offset ∷ offsets) = told_module place number fs offset registers names ∷ told_from registers names (suc place) (number + length fs) fss offsets
 
--- a module of a translation and of the functions compiled from it, of which the first has a number, with what is told of it
+-- a module of a translation and of the functions compiled from it, of which the first has a number, with what is told of it; what is
+-- written has version 4
 abbrev pub module_view : ℕ → ModuleTranslation → List Compiled → ToldModule → Module
-module_view number t fs told = record { sections = translation_sections t; functions = functions_of t.code_section_offset number (map address_map_view fs); told = told; file = told_file t; compressed = t.compressed }
+module_view number t fs told = record { sections = translation_sections t; functions = functions_of t.code_section_offset number (map address_map_view fs); told = told; file = told_file t; compressed = t.compressed; version = 4 }
 
 -- modules in order, whose functions are numbered over all of them from a number on
 abbrev pub modules_from : ℕ → List ModuleTranslation → List (List Compiled) → List ToldModule → List Module
@@ -62,7 +63,7 @@ counted_behind registers c = record c { next_id = next_id_behind c.next_id (modu
 -- the input of a compilation for a target of a byte order, an address size, numbers of registers, and what the frames of all functions
 -- share, if it has frames
 abbrev pub input_of : Endian → ℕ → Registers → Option CommonEntry → CompilationValue → Compilation
-input_of order pointer_bytes registers entry c = record { order = order; pointer_bytes = pointer_bytes; modules = modules_of registers c; next_id = c.next_id; common_entry = entry }
+input_of order pointer_bytes registers entry c = record { order = order; pointer_bytes = pointer_bytes; modules = modules_of registers c; next_id = c.next_id; common_entry = entry; version = 4 }
 
 -- the first bad map of modules from a place on: the place of its module, that of its function, and the first rule it breaks
 abbrev pub bad_map_from : ℕ → List ModuleTranslation → List (List Compiled) → Option (ℕ × (ℕ × MapFault))

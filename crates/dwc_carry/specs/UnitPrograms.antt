@@ -17,17 +17,17 @@ use Rattle.dwc_carry.specs.declared.error.DebugError.{DebugError}
 use Rattle.dwc_carry.specs.Refusals.{ReadsOr}
 
 -- A line program carries the line table at an offset, read for a unit of an address size whose texts by an index begin at a base, all of
--- whose files and directories are there, and the files are its own.
+-- whose files and directories are there, and the files are its own, for an output of version 4.
 pub record CarriesTableAt (fs : List Function) (s : Sections) (address_size base size offset : ℕ) (files : UnitFiles) (lines : GivenLines) : Type 0 where
   pub table : LineTable
   pub is_read : line_table s address_size base offset ≡ Ok table
   pub all_there : has_all_files table ≡ true
   pub carries : CarriesTable table fs size lines
-  pub files_are : AreFiles files table.header.version (Some table)
+  pub files_are : AreFiles files 4 table.header.version (Some table)
 
 -- A line program carries the line table that the root of a unit names; there is none where it names none.
 abbrev pub CarriesNamed : List Function → Sections → UnitHeader → ℕ → Option ℕ → UnitFiles → GivenLines → Type 0
-CarriesNamed fs s h size None files lines = AreFiles files h.version None × (lines ≡ no_lines None)
+CarriesNamed fs s h size None files lines = AreFiles files 4 h.version None × (lines ≡ no_lines None)
 CarriesNamed fs s h size (Some offset) files lines = CarriesTableAt fs s h.address_size (text_base s h) size offset files lines
 
 -- A new unit, with the line program that carries what a root names, and the files of that.

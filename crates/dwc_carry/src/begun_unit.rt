@@ -43,6 +43,7 @@ pub(crate) fn begun_unit(
         let files = UnitFiles {
             version: read.unit.encoding().version,
             count: None,
+            output_version: encoding.version,
         };
         let unit = Unit::new(alloc, encoding, none)?;
         return Ok(BegunUnit { unit, files });
@@ -81,6 +82,7 @@ fn begun_at_once(
     let files = UnitFiles {
         version: table.version(),
         count: Some(table.file_count()),
+        output_version: encoding.version,
     };
     let lines = carried_open_lines(alloc, &mut table, transform, encoding)?;
     let Ok(unit) = Unit::new(alloc, encoding, lines) else {
@@ -106,6 +108,7 @@ fn begun_behind(
     let files = UnitFiles {
         version: table.version(),
         count: Some(table.file_count()),
+        output_version: encoding.version,
     };
     let lines = carried_lines(alloc, &table, transform, encoding)?;
     let unit = Unit::new(alloc, encoding, lines)?;

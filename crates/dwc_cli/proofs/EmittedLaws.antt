@@ -114,13 +114,14 @@ told-same registers names place number m = λ i. record {
 }
 
 module-same : (number : ℕ) (t u : ModuleTranslation) (w : WasmModule) (path : Option (List ℕ)) (fs gs : List AddressMap) (told seen : ToldModule) → fs ≡ gs → told ≡ seen → IsWholeTranslation t w → HasPath t path u
-    → ◌≡◌ {A = Module} (record { sections = translation_sections u; functions = functions_of u.code_section_offset number fs; told = told; file = told_file u; compressed = u.compressed }) (record { sections = module_sections w; functions = functions_of w.code_offset number gs; told = seen; file = file_of path w; compressed = w.compressed })
+    → ◌≡◌ {A = Module} (record { sections = translation_sections u; functions = functions_of u.code_section_offset number fs; told = told; file = told_file u; compressed = u.compressed; version = 4 }) (record { sections = module_sections w; functions = functions_of w.code_offset number gs; told = seen; file = file_of path w; compressed = w.compressed; version = 4 })
 module-same number t u w path fs gs told seen maps tells is has = λ i. record {
   sections = (ap translation_sections has.same ∙ translation_sections-is t w is.0) i;
   functions = functions_of (code_offset-is t u w path is has i) number (maps i);
   told = tells i;
   file = told_file-with_path t u w path is has i;
   compressed = (ap (λ x. x.compressed) has.same ∙ (is.0).compressed) i;
+  version = 4;
 }
 
 pub modules-same : (registers : Registers) (names : LinkageNames) (place number : ℕ) (ts us : List ModuleTranslation) (ws : List WasmModule) (ms : List MapModule) → AllZip IsWholeTranslation ts ws → HavePaths ts (paths_in ms) us
@@ -193,7 +194,7 @@ abbrev entry_in : MapFile → Option CommonEntry
 entry_in f = option_map cie_view f.target.cie
 
 abbrev of_modules : MapFile → List Module → Compilation
-of_modules f ms = record { order = order_in f; pointer_bytes = f.target.pointer_bytes; modules = ms; next_id = f.next_id; common_entry = entry_in f }
+of_modules f ms = record { order = order_in f; pointer_bytes = f.target.pointer_bytes; modules = ms; next_id = f.next_id; common_entry = entry_in f; version = 4 }
 
 -- DWARF's numbers of the registers of a map
 abbrev registers_in : MapFile → Registers

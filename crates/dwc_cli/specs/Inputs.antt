@@ -96,12 +96,13 @@ modules_of registers names place number (w ∷ ws) (m ∷ ms) =
       told = told_of registers names place number m;
       file = file_of m.path w;
       compressed = w.compressed;
+      version = 4;
     }
     ∷ modules_of registers names (suc place) (number + length m.functions) ws ms
 
 -- the compilation of a map and modules
 abbrev pub compilation : MapFile → List WasmModule → Compilation
-compilation m ws = record { order = if m.target.big_endian then Big else Little; pointer_bytes = m.target.pointer_bytes; modules = modules_of m.target.registers (names_of m) 0 0 ws m.modules; next_id = m.next_id; common_entry = m.target.common_entry }
+compilation m ws = record { order = if m.target.big_endian then Big else Little; pointer_bytes = m.target.pointer_bytes; modules = modules_of m.target.registers (names_of m) 0 0 ws m.modules; next_id = m.next_id; common_entry = m.target.common_entry; version = 4 }
 
 -- what was read of an input: its modules, and its map
 pub record Loaded : Type 0 where

@@ -9,7 +9,7 @@ use Rattle.dwc_base.specs.declared.faults.What.TheVariants.{AddressValue, Text}
 use Rattle.dwc_base.specs.declared.section_name.SectionName.TheVariants.{Info}
 use Rattle.dwc_base.specs.declared.constants.TheConstants.{DW_AT_artificial, DW_AT_frame_base, DW_AT_name, DW_AT_object_pointer, DW_FORM_udata}
 use Rattle.dwc_native.specs.BuiltExpressions.{BuiltExpressions}
-use Rattle.dwc_rules.specs.Clones.{UnitSource, attribute_becomes, constant_becomes, constant_form, file_number, is_file_name, reference_becomes, text_becomes, text_drafted, value_becomes}
+use Rattle.dwc_rules.specs.Clones.{UnitSource, attribute_becomes, constant_becomes, constant_form, file_number, is_file_name, number_written, reference_becomes, text_becomes, text_drafted, value_becomes}
 use Rattle.dwc_rules.specs.Drafts.{itself, Goal, made_of, DraftValue, done, goes_to}
 use Rattle.dwc_rules.specs.DraftForests.{settled_value}
 use Rattle.dwc_rules.specs.EntryRules.{code_value_becomes, of_list, of_location, rules_of_source}
@@ -209,7 +209,7 @@ module _ (x : ExpressionSource) (e : Placed) (before : List (ℕ × Value)) (nam
       other : ArePlain (becomes v) → ((unit end : ℕ) → named_offset unit end v ≡ None) → ((texts : TextSource) → text_named texts v ≡ Ok None) → Becomes v
 
     constant-plain : (form bits : ℕ) → ArePlain {E = Refusal} (Ok (option_map done (constant_becomes s name form bits)))
-    constant-plain form bits = go (is_file_name name) (file_number s.version s.table bits)
+    constant-plain form bits = go (is_file_name name) (number_written s.output_version (file_number s.version s.table bits))
       where
         go : (b : Bool) (o : Option ℕ) → ArePlain {E = Refusal} (Ok (option_map done (if b then option_map (constant DW_FORM_udata) o else Some (constant (constant_form form) bits))))
         go true None = tt

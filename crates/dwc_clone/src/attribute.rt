@@ -29,7 +29,7 @@ use std::alloc::Global;
 
 // The line table of the unit, which its root names.
 fn line_table(source: &CloneSource<'_, '_>, entry: &Entry<'_>) -> Option<AttributeValue>
-    ensures made { (s : UnitSource) (e : Placed) (places : List EmittedEntry) (number : ℕ) (texts : List (List ℕ)) → AreFiles source.now.files s.version s.table → e.entry ≡ entry_view entry.now → Says places number DW_AT_stmt_list texts (table_becomes s e) result }
+    ensures made { (s : UnitSource) (e : Placed) (places : List EmittedEntry) (number : ℕ) (texts : List (List ℕ)) → AreFiles source.now.files s.output_version s.version s.table → e.entry ≡ entry_view entry.now → Says places number DW_AT_stmt_list texts (table_becomes s e) result }
     ensures fits { (size : ℕ) → IfSome result (FitsValue size DW_AT_stmt_list) }
 {
     if entry.depth == 0 && source.files.count.is_some() {

@@ -52,7 +52,7 @@ fn constant_form(form: u16) -> u16
 fn constant(files: UnitFiles, name: u16, form: u16, bits: u64) -> Option<AttributeValue>
     requires form { is_constant_form form ≡ true }
     requires bits { bits < constant_bound form }
-    ensures made { (s : UnitSource) (places : List EmittedEntry) (number : ℕ) (texts : List (List ℕ)) → AreFiles files s.version s.table → Says places number name texts (option_map done (constant_becomes s name form bits)) result }
+    ensures made { (s : UnitSource) (places : List EmittedEntry) (number : ℕ) (texts : List (List ℕ)) → AreFiles files s.output_version s.version s.table → Says places number name texts (option_map done (constant_becomes s name form bits)) result }
     ensures fits { (size : ℕ) → IfSome result (FitsValue size name) }
 {
     if is_file_name(name) {

@@ -1,66 +1,29 @@
 -- The fields of an output that a linker may change: addresses, and offsets in sections, as a reader comes upon them, and the
 -- relocations of them. (DWARF 4, sections 7.5.1.1, 7.5.4 and 6.2.5.3; DWARF 5, the same sections, and section 7.26.)
-use Rattle.std.specs.Prelude.{◌≡◌, ◌≤◌, ℕ, ◌+◌, ◌==◌, pos, true, false, Bool, List, [], ◌∷◌, ◌++◌, length, map, nat_lt, if◌then◌else◌, Option, Some, None, option_map, Result, Ok, Err, All, AllPairs}
+use Rattle.std.specs.Prelude.{◌≡◌, ◌≤◌, ℕ, ◌+◌, ◌==◌, pos, true, false, Bool, List, [], ◌∷◌, ◌++◌, length, map, nat_lt, if◌then◌else◌, Option, Some, None, Result, Ok, Err, All, AllPairs}
 use Rattle.std.specs.List.{flat_map, filter_map}
 use Rattle.dwc_base.specs.declared.records.Endian.{Endian}
-use Rattle.dwc_base.specs.declared.records.Address.{Address}
 use Rattle.dwc_base.specs.declared.records.Address.TheVariants.{Constant, Symbol}
 use Rattle.dwc_base.specs.declared.section_name.SectionName.{SectionName}
-use Rattle.dwc_base.specs.declared.section_name.SectionName.TheVariants.{Abbrev, Info, Line, LineStr, Loc, Loclists, Ranges, Rnglists, Str}
+use Rattle.dwc_base.specs.declared.section_name.SectionName.TheVariants.{Abbrev, Info, Line, Loc, Loclists, Ranges, Rnglists}
 use Rattle.dwc_base.specs.declared.faults.Flaw.{Flaw}
 use Rattle.dwc_base.specs.declared.faults.Flaw.TheVariants.{Malformed}
-use Rattle.dwc_base.specs.declared.constants.TheConstants.{DW_AT_stmt_list, DW_FORM_line_strp, DW_FORM_strp}
-use Rattle.dwc_base.specs.Reading.{Unread, ◌>>=◌, passed, uleb_at, coded}
+use Rattle.dwc_base.specs.declared.constants.TheConstants.{DW_AT_stmt_list}
+use Rattle.dwc_base.specs.Reading.{Unread, ◌>>=◌, passed, uleb_at}
 use Rattle.dwc_base.specs.Sections.{Sections, Relocation, section_from, section_text}
 use Rattle.dwc_base.specs.Abbreviations.{AttributeSpec, Declaration, declaration_of, abbreviation_table}
 use Rattle.dwc_base.specs.Units.{UnitHeader}
-use Rattle.dwc_dwarf.specs.Values.{Value, address, text_reference, line_reference, range_reference, location_reference, info_reference, form_code_at, value_at}
+use Rattle.dwc_dwarf.specs.Values.{Value, address, info_reference, form_code_at, value_at}
 use Rattle.dwc_dwarf.specs.Entries.{Entry, attribute}
 use Rattle.dwc_dwarf.specs.Indexed.{text_base}
 use Rattle.dwc_dwarf.specs.RawLists.{ListSource, ListPlace, list_named, is_location_list, is_range_list, RawEntry, pair, base_selection, raw_ranges, PlacedExpression, RawLocation, raw_locations}
 use Rattle.dwc_dwarf.specs.Lists.{list_source}
 use Rattle.dwc_dwarf.specs.LineHeaders.{LineHeader, line_source, Instruction, set_address, line_header_at, instruction_at, instructions}
 use Rattle.dwc_dwarf.specs.ReadUnits.{Unit, units, root, line_offset}
+pub use Rattle.dwc_output.specs.FieldKinds.{Held, an_address, offset_in, Field, fields_read, section_of_text, section_of_ranges, section_of_locations, held_by, field_of_address}
+use Rattle.dwc_output.specs.NewListFields.{new_lists_of_unit}
+use Rattle.dwc_output.specs.PathFields.{paths_of_line_table}
 use Rattle.dwc_base.specs.Outputs.{OutputRelocation, function, section, OutputSection, output_sections}
-
--- what a field holds: an address, or an offset in a section
-pub data Held : Type 0 where
-  an_address : Address → Held
-  offset_in : SectionName → ℕ → Held
-
--- a field: its offset in its section, its size, and what it holds
-pub record Field : Type 0 where
-  pub offset : ℕ
-  pub size : ℕ
-  pub held : Held
-
--- what could be read, nothing where it could not
-abbrev pub fields_read : {E : Type 0} → Result (List Field) E → List Field
-fields_read (Ok fields) = fields
-fields_read (Err flaw) = []
-
--- ---- .debug_info
-
--- the section that a form gives the offset of a text in
-abbrev pub section_of_text : ℕ → Option SectionName
-section_of_text form = coded ((DW_FORM_strp, Str) ∷ (DW_FORM_line_strp, LineStr) ∷ []) form
-
--- The section of range lists and that of location lists changed with version 5.
-abbrev pub section_of_ranges : ℕ → SectionName
-section_of_ranges version = if nat_lt version 5 then Ranges else Rnglists
-
-abbrev pub section_of_locations : ℕ → SectionName
-section_of_locations version = if nat_lt version 5 then Loc else Loclists
-
--- What a value holds in a field of a unit; none for any other value.
-abbrev pub held_by : UnitHeader → Value → Option Held
-held_by h (address a) = Some (an_address a)
-held_by h (text_reference form n) = option_map (λ name. offset_in name n) (section_of_text form)
-held_by h (line_reference n) = Some (offset_in Line n)
-held_by h (range_reference n) = Some (offset_in (section_of_ranges h.version) n)
-held_by h (location_reference n) = Some (offset_in (section_of_locations h.version) n)
-held_by h (info_reference n) = Some (offset_in Info n)
-held_by h _ = None
 
 -- A reference to another unit has an address's size in version 2.
 abbrev pub field_size : UnitHeader → Value → ℕ
@@ -100,7 +63,7 @@ fields_of_entries s h es = elim (abbreviation_table s h.abbreviations) [ Err fau
 abbrev pub fields_of_unit : Sections → Unit → List Field
 fields_of_unit s u = field_of_table u.header ∷ fields_of_entries s u.header u.entries
 
--- ---- .debug_line, up to version 4; the paths of version 5 may be offsets too
+-- ---- .debug_line: the names of version 5, which may stand elsewhere, and the addresses of the program
 
 -- the operand of DW_LNE_set_address, behind a zero, the length and the opcode
 abbrev pub field_of_instruction : LineHeader → Unread → Instruction → List Field
@@ -117,7 +80,8 @@ fields_of_instructions relocations h (i ∷ is) u =
 unfoldable pub fields_of_line_table : Sections → ℕ → ℕ → ℕ → Result (List Field) Flaw
 fields_of_line_table s address_size base offset = do
   h ← line_header_at (line_source s base) address_size (section_from s Line offset)
-  Ok (fields_of_instructions (s.relocations Line) h (instructions (s.relocations Line) h h.program).items h.program)
+  paths ← paths_of_line_table s address_size base offset
+  Ok (paths ++ fields_of_instructions (s.relocations Line) h (instructions (s.relocations Line) h h.program).items h.program)
 
 -- the fields of the line table that an entry names, if it names one
 abbrev pub fields_of_lines : Sections → UnitHeader → Option Entry → List Field
@@ -126,10 +90,6 @@ fields_of_lines s h (Some e) = elim (line_offset (attribute DW_AT_stmt_list e)) 
 
 -- ---- .debug_ranges and .debug_loc: lists up to version 4 are pairs of addresses, in a location list each with an expression behind the
 -- expression's length (DWARF 4, sections 2.17.3 and 2.6.2)
-
--- the address at a place
-abbrev pub field_of_address : ℕ → ℕ → Address → Field
-field_of_address size place a = record { offset = place; size = size; held = an_address a }
 
 -- the addresses of an entry at a place; of one that selects a base the first is all ones
 abbrev pub fields_of_pair : ℕ → ℕ → RawEntry → List Field
@@ -182,6 +142,8 @@ fields_of_section s Info = flat_map (fields_of_unit s) (units s).items
 fields_of_section s Line = flat_map (λ u. fields_of_lines s u.header (root u)) (units s).items
 fields_of_section s Ranges = flat_map (lists_of_unit is_range_list s) (units s).items
 fields_of_section s Loc = flat_map (lists_of_unit is_location_list s) (units s).items
+fields_of_section s Rnglists = flat_map (new_lists_of_unit is_range_list s) (units s).items
+fields_of_section s Loclists = flat_map (new_lists_of_unit is_location_list s) (units s).items
 fields_of_section s name = []
 
 -- the relocation of a field at an offset: none of an address that is a number

@@ -6,3 +6,8 @@ pub mod WidestTrees
 pub mod FrameSections
 pub mod FramesCarried
 pub mod SimulatedLines
+pub mod Versions
+pub mod FieldKinds
+pub mod NewListFields
+pub mod PathFields
+pub mod OwnDirectories

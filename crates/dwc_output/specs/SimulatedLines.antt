@@ -7,6 +7,7 @@ use Rattle.dwc_base.specs.declared.records.Address.TheVariants.{Symbol}
 use Rattle.dwc_base.specs.Sections.{Sections}
 use Rattle.dwc_dwarf.specs.LineRows.{LineTable, Row, RowContents, Segment, segments, row_in_force}
 use Rattle.dwc_native.specs.Functions.{Function, Recorded, recorded_sources}
+use Rattle.dwc_output.specs.Versions.{files_written}
 use Rattle.dwc_dwarf.specs.ReadUnits.{Unit, table_of_unit}
 
 -- ---- what is said of each byte
@@ -57,14 +58,14 @@ pub record IsSimulated (name : List ℕ) (code_offset : ℕ) (f : Function) (seg
   pub rows : segment.rows ≡ simulated_rows name code_offset (recorded_sources f)
   pub agrees : (byte : ℕ) → byte < f.length → row_in_force segment.rows byte ≡ Some (simulated_row name code_offset f byte)
 
--- A unit of an output has a line table of version 4, whose only file is the one of the name, without directories, and which has, in order,
+-- A unit of an output has a line table of a version, whose only file is the one of the name, without directories, and which has, in order,
 -- one such segment for each of some functions, each with the offset of its own file's code.
-pub record CarriesSimulated (output : Sections) (name : List ℕ) (fs : List (ℕ × Function)) (v : Unit) : Type 0 where
+pub record CarriesSimulated (version : ℕ) (output : Sections) (name : List ℕ) (fs : List (ℕ × Function)) (v : Unit) : Type 0 where
   pub made : LineTable
   pub made_read : table_of_unit output v ≡ Ok (Some made)
-  pub version : made.header.version ≡ 4
+  pub version_is : made.header.version ≡ version
   pub directories : made.header.directories ≡ []
-  pub files : made.files ≡ record { directory = 0; name = name } ∷ []
+  pub files : made.files ≡ files_written version (record { directory = 0; name = name } ∷ [])
   pub each : AllZip (λ f segment. IsSimulated name f.0 f.1 segment) fs (segments made)
 
 -- ---- the segment that is written

@@ -1,40 +1,36 @@
 -- Which units and segments of an input are carried, and what it means that an output carries the lines.
-use Rattle.std.specs.Prelude.{ℕ, ◌==◌, List, [], ◌∷◌, map, Bool, false, ◌&&◌, Option, Some, None, Result, Ok}
+use Rattle.std.specs.Prelude.{ℕ, ◌==◌, List, map, Bool, false, ◌&&◌, Option, Some, None}
 use Rattle.std.specs.List.{list_any, flat_map}
 use Rattle.dwc_base.specs.declared.records.Endian.{Endian}
-use Rattle.dwc_base.specs.Reading.{◌>>=◌}
-use Rattle.dwc_base.specs.Listing.{Listing, only_fault, with_first}
-use Rattle.dwc_base.specs.Sections.{Sections, Fault}
-use Rattle.dwc_base.specs.Units.{UnitHeader, unit_headers}
-use Rattle.dwc_dwarf.specs.Values.{Value, line_reference}
-use Rattle.dwc_dwarf.specs.Indexed.{text_base}
-use Rattle.dwc_dwarf.specs.Entries.{Entry, entries, attribute}
-use Rattle.dwc_dwarf.specs.LineRows.{LineTable, line_table, Segment, segments}
+use Rattle.dwc_base.specs.Sections.{Sections}
+use Rattle.dwc_dwarf.specs.Entries.{Entry}
 use Rattle.dwc_native.specs.Functions.{Function}
 use Rattle.dwc_native.specs.CallFrames.{CommonEntry}
 use Rattle.dwc_native.specs.Compiled.{ToldModule}
 use Rattle.dwc_base.specs.ToldFiles.{ToldFile}
 use Rattle.dwc_dwarf.specs.ReadUnits.{Unit, root}
 use Rattle.dwc_rules.specs.Kept.{Placed}
-use Rattle.dwc_base.specs.declared.constants.TheConstants.{DW_AT_stmt_list, DW_TAG_compile_unit}
+use Rattle.dwc_base.specs.declared.constants.TheConstants.{DW_TAG_compile_unit}
 
--- a module of an input: its sections, its defined functions, what its code generator and what its file tell of it beside them, and the
--- place of its first compressed section
+-- a module of an input: its sections, its defined functions, what its code generator and what its file tell of it beside them, the
+-- place of its first compressed section, and the version of DWARF that is written for it, 4 or 5
 pub record Module : Type 0 where
   pub sections : Sections
   pub functions : List Function
   pub told : ToldModule
   pub file : ToldFile
   pub compressed : Option ℕ
+  pub version : ℕ
 
--- an input, the byte order and address size of the target, the number of the next generated name, and what the frames of all functions
--- share, if the target has frames of this kind
+-- an input, the byte order and address size of the target, the number of the next generated name, what the frames of all functions
+-- share, if the target has frames of this kind, and the version of DWARF that is written, 4 or 5
 pub record Compilation : Type 0 where
   pub order : Endian
   pub pointer_bytes : ℕ
   pub modules : List Module
   pub next_id : ℕ
   pub common_entry : Option CommonEntry
+  pub version : ℕ
 
 -- the entries of some units, with the offset of their unit
 abbrev pub placed_entries : List Unit → List Placed

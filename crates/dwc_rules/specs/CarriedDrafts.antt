@@ -23,6 +23,7 @@ readable_table (Err fault) = None
 unfoldable pub source_of : KeptModule → Unit → UnitSource
 source_of m u = record {
   version = u.header.version;
+  output_version = m.parts.version;
   texts = texts_of_unit m.parts.sections u.header;
   table = readable_table (table_of_unit m.parts.sections u);
   entries = m.entries;

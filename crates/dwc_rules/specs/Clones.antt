@@ -1,6 +1,6 @@
 -- What each attribute of a kept entry becomes: texts, constants, flags, blocks, references and the line table here; what speaks of
 -- code by rules that are handed in. (DWARF 4 and 5, sections 2.2 and 7.5; what is dropped is this project's own choice.)
-use Rattle.std.specs.Prelude.{ℕ, suc, ◌==◌, List, [], ◌∷◌, ◌++◌, Bool, true, false, nat_lt, ◌&&◌, ◌||◌, if◌then◌else◌, Option, Some, None, option_map, is_some, Result, Ok, Err}
+use Rattle.std.specs.Prelude.{ℕ, suc, ◌==◌, List, [], ◌∷◌, ◌++◌, Bool, true, false, nat_lt, not, ◌&&◌, ◌||◌, if◌then◌else◌, Option, Some, None, option_map, is_some, Result, Ok, Err}
 use Rattle.std.specs.List.{filter_map}
 use Rattle.dwc_base.specs.declared.section_name.SectionName.TheVariants.{Info}
 use Rattle.dwc_base.specs.declared.faults.What.TheVariants.{Text}
@@ -17,9 +17,11 @@ use Rattle.dwc_rules.specs.Targets.{target_of}
 use Rattle.dwc_dwarf.specs.Trees.{TreeValue, constant, flag, block, text, line_table}
 use Rattle.dwc_rules.specs.Drafts.{itself, made_of, DraftValue, done, goes_to}
 
--- What the attributes of a unit's entries are read with: its version, its texts, its line table, and the entries of its section.
+-- What the attributes of a unit's entries are read with: its version and that of the output, its texts, its line table, and the entries of
+-- its section.
 pub record UnitSource : Type 0 where
   pub version : ℕ
+  pub output_version : ℕ
   pub texts : TextSource
   pub table : Option LineTable
   pub entries : List Placed
@@ -63,9 +65,14 @@ file_number version (Some t) n =
     then (if n == 0 then Some 0 else option_map (λ f. n) (file_numbered t n))
     else option_map (λ f. suc n) (file_numbered t n)
 
+-- Number 0 names no file up to version 4, and one from version 5 on: in an output of version 5 an attribute that names none goes.
+abbrev pub number_written : ℕ → Option ℕ → Option ℕ
+number_written version None = None
+number_written version (Some n) = if nat_lt version 5 || not (n == 0) then Some n else None
+
 -- what a constant becomes: a file's number is another in the output, and one of a missing file goes
 abbrev pub constant_becomes : UnitSource → ℕ → ℕ → ℕ → Option TreeValue
-constant_becomes s name form bits = if is_file_name name then option_map (constant DW_FORM_udata) (file_number s.version s.table bits) else Some (constant (constant_form form) bits)
+constant_becomes s name form bits = if is_file_name name then option_map (constant DW_FORM_udata) (number_written s.output_version (file_number s.version s.table bits)) else Some (constant (constant_form form) bits)
 
 -- the entry that is made of the one that a reference goes to
 abbrev pub reference_becomes : UnitSource → Placed → Value → Option DraftValue

@@ -19,10 +19,10 @@ use Rattle.dwc_source.specs.declared.files.UnitFiles.{UnitFiles}
 use Rattle.dwc_source.specs.declared.source.CloneSource.{CloneSource}
 use Rattle.dwc_source.specs.OutputPlaces.{place_of}
 
--- the files of a unit of a version, by its line table
-abbrev pub AreFiles : UnitFiles → ℕ → Option LineTable → Type 0
-AreFiles files version None = (files.version ≡ version) × (files.count ≡ None)
-AreFiles files version (Some t) = (files.version ≡ t.header.version) × (files.count ≡ Some (length t.files))
+-- the files of a unit of a version, by its line table, for an output of a version
+abbrev pub AreFiles : UnitFiles → ℕ → ℕ → Option LineTable → Type 0
+AreFiles files output version None = (files.output_version ≡ output) × (files.version ≡ version) × (files.count ≡ None)
+AreFiles files output version (Some t) = (files.output_version ≡ output) × (files.version ≡ t.header.version) × (files.count ≡ Some (length t.files))
 
 -- the unit of an entry that a reference names
 abbrev pub unit_of : DebugInfoRef → ℕ
@@ -61,7 +61,7 @@ is_within c offset = nat_le c.unit.now.header.offset offset && nat_lt offset c.u
 pub record IsSource (c : CloneSource) (number : ℕ) (s : UnitSource) : Type 0 where
   pub version : s.version ≡ c.unit.now.header.version
   pub texts : s.texts ≡ texts_of_unit c.unit.now.sections c.unit.now.header
-  pub files : AreFiles c.files s.version s.table
+  pub files : AreFiles c.files s.output_version s.version s.table
   pub targets : (e : Placed) (v : Value) → e.unit ≡ c.unit.now.header.offset → option_and_then (λ f. place_of c.places.now f.entry.offset) (target_of s.entries e v) ≡ option_and_then (place_of c.places.now) (named_offset c.unit.now.header.offset c.unit.now.header.end v)
   pub named : (e f : Placed) (v : Value) → e.unit ≡ c.unit.now.header.offset → target_of s.entries e v ≡ Some f → is_some (place_of c.places.now f.entry.offset) ≡ true → named_offset c.unit.now.header.offset c.unit.now.header.end v ≡ Some f.entry.offset
   pub inside : (f : Placed) → Contains s.entries f → (f.unit == c.unit.now.header.offset) ≡ is_within c f.entry.offset

@@ -7,6 +7,7 @@ use Rattle.dwc_base.specs.declared.records.Endian.TheVariants.{Little}
 use Rattle.dwc_base.specs.declared.section_name.SectionName.TheVariants.{Abbrev, Info, Line, Ranges, Str}
 use Rattle.dwc_base.specs.Outputs.{OutputRelocation, OutputSection, output_sections}
 use Rattle.dwc_native.specs.Compiled.{no_memory}
+use Rattle.dwc_output.specs.PathFields.{header_paths_at}
 use Rattle.dwc_output.specs.Fields.{fields_at, fields_of_entry, fields_of_instructions, fields_of_line_table, fields_of_named, fields_of_section, relocations_of_fields, IsRelocated, AreRelocated}
 use Rattle.dwc_rules.specs.Carried.{Compilation}
 use Rattle.dwc_dwarf.specs.ReadUnits.{units}
@@ -71,7 +72,7 @@ lines-bare = record {
 
 -- ---- its form
 
-pub form-bare : HaveTargetForm 8 (units (output_sections Little output_bare)).items
+pub form-bare : HaveTargetForm 4 8 (units (output_sections Little output_bare)).items
 unfolding whole_on_literals
 form-bare = all-from HasForm (units (output_sections Little output_bare)).items ((refl, refl), ((refl, refl), tt))
 
@@ -86,7 +87,7 @@ unfolding whole_on_literals fields_of_section fields_at fields_of_entry
 relocated-info = refl
 
 relocated-line : relocations_of_fields (fields_of_section (output_sections Little output_bare) Line) ≡ relocations_at 2
-unfolding whole_on_literals fields_of_section fields_of_line_table fields_of_instructions
+unfolding whole_on_literals fields_of_section fields_of_line_table fields_of_instructions header_paths_at
 relocated-line = refl
 
 relocated-ranges : relocations_of_fields (fields_of_section (output_sections Little output_bare) Ranges) ≡ relocations_at 3
@@ -133,6 +134,7 @@ carried_bare = record {
   form = form-bare;
   names = names-bare;
   known = refl;
+  of_5 = λ is. absurd (omega (arith, is));
   relocated = related-bare;
   frames = refl;
 }
@@ -154,4 +156,4 @@ nothing_carried-bare : LinesCarried (compilation_of read_bare) [] → ⊥
 unfolding whole_on_literals
 nothing_carried-bare h =
     let items : h.output ≡ [] = ap (λ l. l.items) (sym h.output_read ∙ no_units) in
-    subst (λ us. AllZip (HasLines (output_sections Little [])) (wanted_units (compilation_of read_bare)) us) items h.each
+    subst (λ us. AllZip (HasLines 4 (output_sections Little [])) (wanted_units (compilation_of read_bare)) us) items h.each

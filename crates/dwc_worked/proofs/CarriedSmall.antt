@@ -61,10 +61,10 @@ output_small =
     ∷ record { name = codes ".debug_str"; body = synthetic_texts ++ codes "__vmctx" ++ 0x00 ∷ []; relocations = [] } ∷ []
 
 abbrev pub module_small : Module
-module_small = record { sections = sections_small; functions = function_small ∷ []; told = told_small; file = file_small_told; compressed = None }
+module_small = record { sections = sections_small; functions = function_small ∷ []; told = told_small; file = file_small_told; compressed = None; version = 4 }
 
 abbrev pub compilation_small : Compilation
-compilation_small = record { order = Little; pointer_bytes = 8; modules = module_small ∷ []; next_id = 0; common_entry = None }
+compilation_small = record { order = Little; pointer_bytes = 8; modules = module_small ∷ []; next_id = 0; common_entry = None; version = 4 }
 
 abbrev pub unit_small : Unit
 unit_small = record { header = header_small; entries = record { offset = 11; depth = 0; tag = 0x11; attributes = (0x10, line_reference 0) ∷ [] } ∷ record { offset = 16; depth = 1; tag = 0x2E; attributes = (0x11, address (Constant 2)) ∷ (0x12, constant 0x06 11) ∷ [] } ∷ [] }
@@ -183,7 +183,7 @@ whole-small zero d h = refl
 whole-small (suc k) d h = absurd (omega arith)
 
 -- the units of the output have the lines of those of the small module
-pub lines-small : AllZip (HasLines (output_sections Little output_small)) (module_units compilation_small) (synthetic_unit_out ∷ unit_out ∷ [])
+pub lines-small : AllZip (HasLines 4 (output_sections Little output_small)) (module_units compilation_small) (synthetic_unit_out ∷ unit_out ∷ [])
 unfolding drafts_on_literals
 lines-small = (
   no_lines-read,
@@ -193,7 +193,7 @@ lines-small = (
       input_read = table-read;
       made = Some (table_of 1 output_small);
       made_read = refl;
-      kept = record { version = refl; directories = refl; files = refl };
+      kept = record { version_is = refl; directories = refl; files = refl };
       carried = images-small;
     },
     tt,
@@ -211,7 +211,7 @@ not_image-small h = let same : 4 ≡ 3 = ap line_in (h.agrees 15 (lit< tt)) in o
 
 -- A module in the 64-bit format has no units, but its lines are not carried by an output without sections.
 abbrev pub compilation_64 : Compilation
-compilation_64 = record { order = Little; pointer_bytes = 8; modules = record { sections = three_sections [] (0xFF ∷ 0xFF ∷ 0xFF ∷ 0xFF ∷ []) []; functions = function_small ∷ []; told = nothing_told; file = bare_file 20; compressed = None } ∷ []; next_id = 0; common_entry = None }
+compilation_64 = record { order = Little; pointer_bytes = 8; modules = record { sections = three_sections [] (0xFF ∷ 0xFF ∷ 0xFF ∷ 0xFF ∷ []) []; functions = function_small ∷ []; told = nothing_told; file = bare_file 20; compressed = None; version = 4 } ∷ []; next_id = 0; common_entry = None; version = 4 }
 
 units-64 : carried_units compilation_64 ≡ []
 unfolding drafts_on_literals

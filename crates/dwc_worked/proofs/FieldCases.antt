@@ -14,6 +14,7 @@ use Rattle.dwc_base.specs.declared.records.Address.TheVariants.{Constant, Symbol
 use Rattle.dwc_base.specs.declared.section_name.SectionName.TheVariants.{Abbrev, Info, Line, LineStr, Loc, Loclists, Ranges, Rnglists, Str}
 use Rattle.dwc_base.specs.Sections.{Sections}
 use Rattle.dwc_base.specs.Outputs.{OutputRelocation, OutputSection, function, section, output_sections}
+use Rattle.dwc_output.specs.PathFields.{header_paths_at}
 use Rattle.dwc_output.specs.Fields.{Field, an_address, offset_in, fields_at, fields_of_entry, fields_of_instructions, fields_of_line_table, fields_of_named, fields_of_section, relocations_of_fields, IsRelocated, AreRelocated}
 
 -- the fields of a module's synthetic unit: its declarations, and a text for each name
@@ -38,7 +39,7 @@ unfolding lines_on_literals fields_of_section fields_at fields_of_entry
 fields-info = refl
 
 fields-line : fields_of_section (output_sections Little output_small) Line ≡ record { offset = 40; size = 8; held = an_address (Symbol 0 (pos 0)) } ∷ []
-unfolding lines_on_literals fields_of_section fields_of_line_table fields_of_instructions
+unfolding lines_on_literals fields_of_section fields_of_line_table fields_of_instructions header_paths_at
 fields-line = refl
 
 -- One entry with the attributes low_pc (addr), name (strp), comp_dir (line_strp), ranges and location (sec_offset), import
@@ -126,7 +127,7 @@ abbrev no_section : OutputSection
 no_section = record { name = []; body = []; relocations = [] }
 
 pub related-small : AreRelocated Little output_small
-unfolding lines_on_literals fields_of_section fields_of_line_table fields_of_instructions
+unfolding lines_on_literals fields_of_section fields_of_line_table fields_of_instructions header_paths_at
 related-small =
     let R : OutputSection → Type 0 = IsRelocated (output_sections Little output_small) in
     All-cons R (get_or output_small 0 no_section) (drop 1 output_small) (record { name = Abbrev; named = refl; fields = refl; rising = each-behind 0 [] refl })

@@ -83,14 +83,14 @@ lines-framed = record {
   each = (
     refl,
     (
-      record { made = table_of 1 output_framed; made_read = refl; version = refl; directories = refl; files = refl; each = (simulated_segment-is (codes "g.wasm") 20 function_small refl refl, tt) },
+      record { made = table_of 1 output_framed; made_read = refl; version_is = refl; directories = refl; files = refl; each = (simulated_segment-is (codes "g.wasm") 20 function_small refl refl, tt) },
       tt,
     ),
   );
 }
 
-form-framed : HaveTargetForm 8 (units (output_sections Little output_framed)).items
-form-framed = subst (λ s. HaveTargetForm 8 (units s).items) (sym same_sections) form-bare
+form-framed : HaveTargetForm 4 8 (units (output_sections Little output_framed)).items
+form-framed = subst (λ s. HaveTargetForm 4 8 (units s).items) (sym same_sections) form-bare
 
 related-framed : All (IsRelocated (output_sections Little output_framed)) (others_in output_framed)
 related-framed = subst (λ s. All (IsRelocated s) output_bare) (sym same_sections) related-bare
@@ -112,6 +112,7 @@ carried-framed = record {
   form = form-framed;
   names = names-from output_framed refl;
   known = refl;
+  of_5 = λ is. absurd (omega (arith, is));
   relocated = related-framed;
   frames = refl;
 }

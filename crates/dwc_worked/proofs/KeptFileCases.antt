@@ -1,6 +1,6 @@
 -- Which line tables keep the files of which: what is numbered stays the same file (`same-file`); another order, a file less, another
 -- directory and another version are refused.
-use Rattle.std.proofs.Common.{◌≡◌, ℕ, zero, suc, pos, List, [], ◌∷◌, get_or, Some, None, Ok, Option, Bool, true, false, refl, ap, sym, subst, ◌∙◌, arith, length}
+use Rattle.std.proofs.Common.{take, ◌++◌, ◌≡◌, ℕ, zero, suc, pos, List, [], ◌∷◌, get_or, Some, None, Ok, Option, Bool, true, false, refl, ap, sym, subst, ◌∙◌, arith, length}
 use Rattle.std.specs.Prelude.{nat_lt, codes, slice_get, option_map, option_and_then, if◌then◌else◌, ◌==◌}
 use Rattle.std.specs.Option.{unwrap_or}
 use Rattle.std.proofs.lemmas.Bool.{ne_eqb}
@@ -40,12 +40,25 @@ module _ (t : LineTable) where
   numbered-there false n m is = ap (slice_get t.files) (sym (one-place (slice_get t.files n) n m is))
 
 -- What a file's number becomes in the output is the number of the same file there.
-pub same-file : (version : ℕ) (input made : LineTable) (n m : ℕ) → KeepsFiles input made → file_number version (Some input) n ≡ Some (suc m) → source_file made (suc m) ≡ source_file input n
+pub same-file : (version : ℕ) (input made : LineTable) (n m : ℕ) → KeepsFiles 4 input made → file_number version (Some input) n ≡ Some (suc m) → source_file made (suc m) ≡ source_file input n
 same-file version input made n m kept is =
-    ap (λ v. option_and_then (in_directory made.header.directories) (if nat_lt v 5 then slice_get made.files m else slice_get made.files (suc m))) kept.version
+    ap (λ v. option_and_then (in_directory made.header.directories) (if nat_lt v 5 then slice_get made.files m else slice_get made.files (suc m))) kept.version_is
     ∙ ap (λ ds. option_and_then (in_directory ds) (slice_get made.files m)) kept.directories
     ∙ ap (λ fs. option_and_then (in_directory input.header.directories) (slice_get fs m)) kept.files
     ∙ ap (option_and_then (in_directory input.header.directories)) (numbered-there input (nat_lt input.header.version 5) n m is)
+
+-- In version 5 the first file stands for number 0 too, so numbers from 1 on are those of version 4.
+pub same-file_5 : (version : ℕ) (input made : LineTable) (n m : ℕ) → KeepsFiles 5 input made → file_number version (Some input) n ≡ Some (suc m) → source_file made (suc m) ≡ source_file input n
+same-file_5 version input made n m kept is =
+    ap (λ v. option_and_then (in_directory made.header.directories) (if nat_lt v 5 then slice_get made.files m else slice_get made.files (suc m))) kept.version_is
+    ∙ ap (λ ds. option_and_then (in_directory ds) (slice_get made.files (suc m))) kept.directories
+    ∙ ap (λ fs. option_and_then (in_directory input.header.directories) (slice_get fs (suc m))) kept.files
+    ∙ ap (option_and_then (in_directory input.header.directories)) (again input.files m)
+    ∙ ap (option_and_then (in_directory input.header.directories)) (numbered-there input (nat_lt input.header.version 5) n m is)
+  where
+    again : (fs : List LineFile) (m : ℕ) → slice_get (take 1 fs ++ fs) (suc m) ≡ slice_get fs m
+    again [] m = refl
+    again (f ∷ fs) m = refl
 
 -- ---- cases
 
@@ -59,8 +72,8 @@ abbrev input_5 : LineTable
 input_5 = table_of_files 5 (codes "d" ∷ codes "e" ∷ []) both
 
 -- a table of version 5 and its carried one, where file 1 is number 2
-kept-of_5 : KeepFiles (Some input_5) (Some (table_of_files 4 (codes "d" ∷ codes "e" ∷ []) both))
-kept-of_5 = record { version = refl; directories = refl; files = refl }
+kept-of_5 : KeepFiles 4 (Some input_5) (Some (table_of_files 4 (codes "d" ∷ codes "e" ∷ []) both))
+kept-of_5 = record { version_is = refl; directories = refl; files = refl }
 
 number-of_5 : file_number 5 (Some input_5) 1 ≡ Some 2
 number-of_5 = refl
@@ -71,25 +84,32 @@ first_directory [] = 0
 first_directory (f ∷ fs) = f.directory
 
 -- files in another order, and the one alone that rows use
-other_order : KeepFiles (Some input_5) (Some (table_of_files 4 (codes "d" ∷ codes "e" ∷ []) (file 1 (codes "b.c") ∷ file 0 (codes "a.c") ∷ []))) → ⊥
+other_order : KeepFiles 4 (Some input_5) (Some (table_of_files 4 (codes "d" ∷ codes "e" ∷ []) (file 1 (codes "b.c") ∷ file 0 (codes "a.c") ∷ []))) → ⊥
 other_order h = let same : 1 ≡ 0 = ap first_directory h.files in omega (arith, same)
 
-used_alone : KeepFiles (Some input_5) (Some (table_of_files 4 (codes "d" ∷ codes "e" ∷ []) (file 0 (codes "a.c") ∷ []))) → ⊥
+used_alone : KeepFiles 4 (Some input_5) (Some (table_of_files 4 (codes "d" ∷ codes "e" ∷ []) (file 0 (codes "a.c") ∷ []))) → ⊥
 used_alone h = let same : 1 ≡ 2 = ap length h.files in omega (arith, same)
 
 -- a directory that no file is in is left out
-directory_lost : KeepFiles (Some input_5) (Some (table_of_files 4 (codes "d" ∷ []) both)) → ⊥
+directory_lost : KeepFiles 4 (Some input_5) (Some (table_of_files 4 (codes "d" ∷ []) both)) → ⊥
 directory_lost h = let same : 1 ≡ 2 = ap length h.directories in omega (arith, same)
 
 -- the version of the input, in which files count from 0
-of_version_5 : KeepFiles (Some input_5) (Some input_5) → ⊥
-of_version_5 h = let same : 5 ≡ 4 = h.version in omega (arith, same)
+of_version_5 : KeepFiles 4 (Some input_5) (Some input_5) → ⊥
+of_version_5 h = let same : 5 ≡ 4 = h.version_is in omega (arith, same)
+
+-- a table of version 5 and its carried one in version 5, where file 1 is number 2 as well, and one without the first file twice
+kept-in_5 : KeepFiles 5 (Some input_5) (Some (table_of_files 5 (codes "d" ∷ codes "e" ∷ []) (file 0 (codes "a.c") ∷ both)))
+kept-in_5 = record { version_is = refl; directories = refl; files = refl }
+
+once_in_5 : KeepFiles 5 (Some input_5) (Some input_5) → ⊥
+once_in_5 h = let same : 2 ≡ 3 = ap length h.files in omega (arith, same)
 
 -- no table, and one where there was none
-table_lost : KeepFiles (Some input_5) None → ⊥
+table_lost : KeepFiles 4 (Some input_5) None → ⊥
 table_lost h = h
 
-table_added : KeepFiles None (Some (table_of_files 4 [] [])) → ⊥
+table_added : KeepFiles 4 None (Some (table_of_files 4 [] [])) → ⊥
 table_added h = h
 
 -- ---- an output that numbers files anew
@@ -124,9 +144,9 @@ unfolding drafts_on_literals
 files-renumbered = (refl, refl)
 
 -- and it does not carry the lines
-renumbered : CarriesUnit (output_sections Little output_renumbered) (record { module_of = module_small; unit = unit_small }) unit_out → ⊥
+renumbered : CarriesUnit 4 (output_sections Little output_renumbered) (record { module_of = module_small; unit = unit_small }) unit_out → ⊥
 renumbered h =
     let made : h.made ≡ Some (table_of 1 output_renumbered) = cc (h.made_read, table-renumbered) in
     let input : h.input ≡ Some table_small = cc (h.input_read, table-read) in
-    let kept : KeepsFiles table_small (table_of 1 output_renumbered) = subst (λ t. KeepFiles t (Some (table_of 1 output_renumbered))) input (subst (KeepFiles h.input) made h.kept) in
+    let kept : KeepsFiles 4 table_small (table_of 1 output_renumbered) = subst (λ t. KeepFiles 4 t (Some (table_of 1 output_renumbered))) input (subst (KeepFiles 4 h.input) made h.kept) in
     omega (arith, ap length kept.files, files-renumbered.0, files-renumbered.1)

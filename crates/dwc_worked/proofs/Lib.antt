@@ -85,3 +85,9 @@ pub mod DeviceCases
 pub mod CallCases
 pub mod SplitSectionCases
 pub mod SpelledCases
+pub mod VersionChecks
+pub mod VersionCases
+pub mod MomentsOfExample
+pub mod MeaningOfExample
+pub mod MachineCases
+pub mod DebuggerCases

@@ -37,7 +37,7 @@ use Rattle.dwc_worked.proofs.TreesSmall.{tree_small, trees_small}
 abbrev pub HasForm : Unit → Type 0
 HasForm u = (u.header.version ≡ 4) × (u.header.address_size ≡ 8)
 
-pub form-small : HaveTargetForm 8 (units (output_sections Little output_small)).items
+pub form-small : HaveTargetForm 4 8 (units (output_sections Little output_small)).items
 form-small = rw output-read (All-cons HasForm synthetic_unit_out (unit_out ∷ []) (refl, refl) (All-cons HasForm unit_out [] (refl, refl) (All-nil HasForm)))
 
 abbrev pub Differ : OutputSection → OutputSection → Type 0

@@ -24,7 +24,7 @@ use Rattle.dwc_native.specs.FrameRefusals.{bad_code_offset, bad_data_offset}
 
 -- the refusal of some modules for a target with a common entry, and for one without
 abbrev refusal_with : Option CommonEntry → List Module → Option Refusal
-refusal_with common ms = first_refusal (record { order = Little; pointer_bytes = 8; modules = ms; next_id = 0; common_entry = common })
+refusal_with common ms = first_refusal (record { order = Little; pointer_bytes = 8; modules = ms; next_id = 0; common_entry = common; version = 4 })
 
 abbrev pub refusal_of : List Module → Option Refusal
 refusal_of ms = refusal_with None ms
@@ -111,7 +111,7 @@ root_behind_lines = refl
 
 -- A function that is too long comes first, of whichever module.
 unfoldable pub long_module : Module
-long_module = record { sections = (module_with abbreviations_small info_small line_small).sections; functions = a_function 0 (Some 0) 2 13 0x80000000 [] ∷ []; told = nothing_told; file = bare_file 20; compressed = None }
+long_module = record { sections = (module_with abbreviations_small info_small line_small).sections; functions = a_function 0 (Some 0) 2 13 0x80000000 [] ∷ []; told = nothing_told; file = bare_file 20; compressed = None; version = 4 }
 
 function_first : refusal_of (module_with abbreviations_small info_small (0x38 ∷ 0x00 ∷ []) ∷ long_module ∷ []) ≡ Some long_function
 unfolding drafts_on_literals long_module

@@ -373,7 +373,7 @@ module_at place read = get_or (compilation_of read).modules place module_small
 
 -- two such modules, with what is told of them
 abbrev two_told : Loaded → ToldModule → ToldModule → Compilation
-two_told read first second = record { order = Little; pointer_bytes = 8; modules = record (module_at 0 read) { told = first } ∷ record (module_at 1 read) { told = second } ∷ []; next_id = 0; common_entry = None }
+two_told read first second = record { order = Little; pointer_bytes = 8; modules = record (module_at 0 read) { told = first } ∷ record (module_at 1 read) { told = second } ∷ []; next_id = 0; common_entry = None; version = 4 }
 
 second-told : compilation_of (read_of_two map_bytes_two file_small file_64) ≡ two_told (read_of_two map_bytes_two file_small file_64) (told_bare runtime_names 0 no_memory) (told_bare runtime_names 1 no_memory)
 unfolding whole_on_literals
@@ -420,11 +420,11 @@ refusal-far : refusal_of (loaded (of_one map_bytes_far file_small)) ≡ Some far
 unfolding whole_on_literals
 refusal-far = refl
 
-near-told : compilation_of (read_of map_bytes_near file_small) ≡ record { order = Little; pointer_bytes = 8; modules = record (module_at 0 (read_of map_bytes_near file_small)) { told = told_bare runtime_names 0 (defined 4294967287) } ∷ []; next_id = 0; common_entry = None }
+near-told : compilation_of (read_of map_bytes_near file_small) ≡ record { order = Little; pointer_bytes = 8; modules = record (module_at 0 (read_of map_bytes_near file_small)) { told = told_bare runtime_names 0 (defined 4294967287) } ∷ []; next_id = 0; common_entry = None; version = 4 }
 unfolding whole_on_literals
-near-told = λ i. record { order = Little; pointer_bytes = 8; modules = record (module_at 0 (read_of map_bytes_near file_small)) { told = told-bare runtime_names 0 0 (of_symbol 0) (defined 4294967287) None i } ∷ []; next_id = 0; common_entry = None }
+near-told = λ i. record { order = Little; pointer_bytes = 8; modules = record (module_at 0 (read_of map_bytes_near file_small)) { told = told-bare runtime_names 0 0 (of_symbol 0) (defined 4294967287) None i } ∷ []; next_id = 0; common_entry = None; version = 4 }
 
-near-accepted : first_refusal (record { order = Little; pointer_bytes = 8; modules = record (module_at 0 (read_of map_bytes_near file_small)) { told = told_bare runtime_names 0 (defined 4294967287) } ∷ []; next_id = 0; common_entry = None }) ≡ None
+near-accepted : first_refusal (record { order = Little; pointer_bytes = 8; modules = record (module_at 0 (read_of map_bytes_near file_small)) { told = told_bare runtime_names 0 (defined 4294967287) } ∷ []; next_id = 0; common_entry = None; version = 4 }) ≡ None
 unfolding whole_on_literals
 near-accepted = refl
 

@@ -57,7 +57,7 @@ nothing_carried : LinesCarried (compilation_of read_small) [] → ⊥
 unfolding whole_on_literals
 nothing_carried h =
     let items : h.output ≡ [] = ap (λ l. l.items) (sym h.output_read ∙ no_units) in
-    subst (λ us. AllZip (HasLines (output_sections Little [])) (wanted_units (compilation_of read_small)) us) items h.each
+    subst (λ us. AllZip (HasLines 4 (output_sections Little [])) (wanted_units (compilation_of read_small)) us) items h.each
 
 empty_text : Succeeds (Some (three_files map_bytes_small file_small [])) right_words (Some []) (Some []) → ⊥
 unfolding printed
@@ -83,11 +83,11 @@ abbrev pub module_read : Module
 module_read = first_module (compilation_of read_small).modules
 
 -- the second unit of such an output carries the small unit
-carries_unit : LinesCarried (compilation_of read_small) output_wrong → CarriesUnit (output_sections Little output_wrong) (record { module_of = module_read; unit = unit_small }) unit_out
+carries_unit : LinesCarried (compilation_of read_small) output_wrong → CarriesUnit 4 (output_sections Little output_wrong) (record { module_of = module_read; unit = unit_small }) unit_out
 unfolding whole_on_literals
 carries_unit h =
     let items : h.output ≡ (units (output_sections Little output_wrong)).items = ap (λ l. l.items) (sym h.output_read) in
-    (subst (λ us. AllZip (HasLines (output_sections Little output_wrong)) (wanted_units (compilation_of read_small)) us) items h.each).1.0
+    (subst (λ us. AllZip (HasLines 4 (output_sections Little output_wrong)) (wanted_units (compilation_of read_small)) us) items h.each).1.0
 
 -- and its segments are images of the small segments
 small_segments : segments_of_unit module_read.sections unit_small ≡ Ok segments_small
@@ -143,8 +143,8 @@ hidden = record {
   each = (
     refl,
     (
-      carries_small (output_sections Little output_hidden) (table_of 1 output_hidden) refl (record { version = refl; directories = refl; files = refl }) refl,
-      (record { made = table_of 2 output_hidden; made_read = refl; version = refl; directories = refl; files = refl; each = tt }, tt),
+      carries_small (output_sections Little output_hidden) (table_of 1 output_hidden) refl (record { version_is = refl; directories = refl; files = refl }) refl,
+      (record { made = table_of 2 output_hidden; made_read = refl; version_is = refl; directories = refl; files = refl; each = tt }, tt),
     ),
   );
 }

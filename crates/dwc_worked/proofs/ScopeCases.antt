@@ -123,7 +123,7 @@ unfolding ranges_on_literals
 unit-lists = refl
 
 -- the second shows code by its start, and keeps its root
-unit-kept : map (λ p. p.entry.offset) (kept_of (record { sections = bytes_of_unit 1 0; functions = small_functions; told = nothing_told; file = bare_file 0; compressed = None })).kept ≡ 12 ∷ 24 ∷ []
+unit-kept : map (λ p. p.entry.offset) (kept_of (record { sections = bytes_of_unit 1 0; functions = small_functions; told = nothing_told; file = bare_file 0; compressed = None; version = 4 })).kept ≡ 12 ∷ 24 ∷ []
 unfolding ranges_on_literals
 unit-kept = refl
 

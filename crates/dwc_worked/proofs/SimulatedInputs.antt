@@ -27,7 +27,7 @@ simulated_on_literals = 0
 
 -- the trees of all units of an output of a byte order for modules, the next generated name having a number
 abbrev pub trees_of : Endian → ℕ → List Module → List Tree
-trees_of order next_id ms = trees_made (record { order = order; pointer_bytes = 8; modules = ms; next_id = next_id; common_entry = None })
+trees_of order next_id ms = trees_made (record { order = order; pointer_bytes = 8; modules = ms; next_id = next_id; common_entry = None; version = 4 })
 
 -- ---- modules
 
@@ -88,6 +88,7 @@ module_edges memory a i l values = record {
     local_types = no_local_types ∷ no_local_types ∷ no_local_types ∷ types_edges ∷ [];
   };
   compressed = None;
+  version = 4;
 }
 
 -- ---- trees

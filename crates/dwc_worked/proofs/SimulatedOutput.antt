@@ -5,6 +5,7 @@ use Rattle.std.specs.Prelude.{Option, codes}
 use Rattle.std.specs.Option.{unwrap_or}
 use Rattle.dwc_base.specs.declared.records.Endian.TheVariants.{Little}
 use Rattle.dwc_base.specs.declared.section_name.SectionName.TheVariants.{Info, Line, Ranges}
+use Rattle.dwc_output.specs.PathFields.{header_paths_at}
 use Rattle.dwc_output.specs.Fields.{fields_at, fields_of_entry, fields_of_instructions, fields_of_line_table, fields_of_named, fields_of_section, relocations_of_fields}
 use Rattle.dwc_base.specs.Outputs.{OutputRelocation, OutputSection, function, output_sections}
 use Rattle.dwc_base.specs.Sections.{Fault}
@@ -124,7 +125,7 @@ unfolding simulated_on_literals fields_of_section fields_at fields_of_entry
 relocated-info = refl
 
 relocated-line : relocations_of_fields (fields_of_section (output_sections Little output_simulated) Line) ≡ to_function 43 0 ∷ []
-unfolding simulated_on_literals fields_of_section fields_of_line_table fields_of_instructions
+unfolding simulated_on_literals fields_of_section fields_of_line_table fields_of_instructions header_paths_at
 relocated-line = refl
 
 relocated-ranges : relocations_of_fields (fields_of_section (output_sections Little output_simulated) Ranges) ≡ to_function 0 0 ∷ to_function 8 30 ∷ []
@@ -145,9 +146,9 @@ unfolding simulated_on_literals
 segments-simulated = refl
 
 -- so the simulated unit has the lines that are wanted of it
-pub lines-simulated : CarriesSimulated (output_sections Little output_simulated) (codes "g.wasm") ((20, function_small) ∷ []) (unit_of 1 output_simulated)
+pub lines-simulated : CarriesSimulated 4 (output_sections Little output_simulated) (codes "g.wasm") ((20, function_small) ∷ []) (unit_of 1 output_simulated)
 unfolding simulated_on_literals
-lines-simulated = record { made = table_of 1 output_simulated; made_read = refl; version = refl; directories = refl; files = refl; each = (simulated_segment-is (codes "g.wasm") 20 function_small refl refl, tt) }
+lines-simulated = record { made = table_of 1 output_simulated; made_read = refl; version_is = refl; directories = refl; files = refl; each = (simulated_segment-is (codes "g.wasm") 20 function_small refl refl, tt) }
 
 -- ---- wrong lines
 

@@ -45,4 +45,4 @@ at_unit unit offset depth tag attributes = record { unit = unit; entry = record 
 
 -- what entries without texts, tables and references are read with
 abbrev pub no_texts : UnitSource
-no_texts = record { version = 4; texts = record { order = Little; strings = []; line_strings = []; offsets = []; base = 0 }; table = None; entries = [] }
+no_texts = record { version = 4; output_version = 4; texts = record { order = Little; strings = []; line_strings = []; offsets = []; base = 0 }; table = None; entries = [] }

@@ -105,18 +105,19 @@ in-front : module_trees (record {
   modules = without_sections no_memory ∷ with_memory (defined 0) line_small ∷ without_sections (defined 80) ∷ with_memory (imported 8 16) line_small ∷ [];
   next_id = 0;
   common_entry = None;
+  version = 4;
 })
     ≡ synthetic_tree 0 ∷ synthetic_tree_with 1 0 ∷ tree_with_synthetic 1 7 ∷ synthetic_tree_with 3 80 ∷ synthetic_tree 4 ∷ tree_with_synthetic 4 6 ∷ []
 unfolding drafts_on_literals
 in-front = refl
 
 -- its constants are the same for a target of the other byte order
-other-order : module_trees (record { order = Big; pointer_bytes = 4; modules = without_sections (defined 80) ∷ []; next_id = 0; common_entry = None }) ≡ synthetic_tree_with 0 80 ∷ []
+other-order : module_trees (record { order = Big; pointer_bytes = 4; modules = without_sections (defined 80) ∷ []; next_id = 0; common_entry = None; version = 4 }) ≡ synthetic_tree_with 0 80 ∷ []
 unfolding drafts_on_literals
 other-order = refl
 
 -- no module has no unit
-no-modules : module_trees (record { order = Little; pointer_bytes = 8; modules = []; next_id = 0; common_entry = None }) ≡ []
+no-modules : module_trees (record { order = Little; pointer_bytes = 8; modules = []; next_id = 0; common_entry = None; version = 4 }) ≡ []
 unfolding drafts_on_literals
 no-modules = refl
 

@@ -22,7 +22,7 @@ an_input abbreviations info line strings line_strings offsets addresses = record
 
 -- one module with the small module's function, for a target of a byte order
 abbrev pub a_compilation : Endian → Sections → Compilation
-a_compilation order sections = record { order = order; pointer_bytes = 8; modules = record { sections = sections; functions = function_small ∷ []; told = told_small; file = bare_file 20; compressed = None } ∷ []; next_id = 0; common_entry = None }
+a_compilation order sections = record { order = order; pointer_bytes = 8; modules = record { sections = sections; functions = function_small ∷ []; told = told_small; file = bare_file 20; compressed = None; version = 4 } ∷ []; next_id = 0; common_entry = None; version = 4 }
 
 abbrev pub an_entry : ℕ → ℕ → List (ℕ × TreeValue) → TreeEntry
 an_entry depth tag attributes = record { depth = depth; tag = tag; attributes = attributes }

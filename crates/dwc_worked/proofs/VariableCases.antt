@@ -51,9 +51,11 @@ compilation_of info local_3 memory registers = record {
     told = record told_small { values = λ function. labels_of local_3; memory = memory; register = coded registers };
     file = bare_file 20;
     compressed = None;
+    version = 4;
   } ∷ [];
   next_id = 0;
   common_entry = None;
+  version = 4;
 }
 
 abbrev pub numbered : List (ℕ × ℕ)

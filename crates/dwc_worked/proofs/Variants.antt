@@ -14,7 +14,7 @@ use Rattle.dwc_carried.specs.OutputCarried.{widest}
 use Rattle.dwc_native.specs.Compiled.{nothing_told}
 
 abbrev pub module_with : List ℕ → List ℕ → List ℕ → Module
-module_with a i l = record { sections = three_sections a i l; functions = function_small ∷ []; told = nothing_told; file = bare_file 20; compressed = None }
+module_with a i l = record { sections = three_sections a i l; functions = function_small ∷ []; told = nothing_told; file = bare_file 20; compressed = None; version = 4 }
 
 -- a row names file 9
 abbrev pub line_9 : List ℕ
@@ -44,7 +44,7 @@ abbrev pub info_no_lines : List ℕ
 info_no_lines = 0x12 ∷ 0x00 ∷ 0x00 ∷ 0x00 ∷ 0x04 ∷ 0x00 ∷ 0x00 ∷ 0x00 ∷ 0x00 ∷ 0x00 ∷ 0x04 ∷ 0x01 ∷ 0x02 ∷ 0x02 ∷ 0x00 ∷ 0x00 ∷ 0x00 ∷ 0x0B ∷ 0x00 ∷ 0x00 ∷ 0x00 ∷ 0x00 ∷ []
 
 abbrev pub widths_of_module : Module → List ℕ
-widths_of_module m = map (λ name. widest name (record { order = Little; pointer_bytes = 8; modules = m ∷ []; next_id = 0; common_entry = None })) (Abbrev ∷ Info ∷ Line ∷ [])
+widths_of_module m = map (λ name. widest name (record { order = Little; pointer_bytes = 8; modules = m ∷ []; next_id = 0; common_entry = None; version = 4 })) (Abbrev ∷ Info ∷ Line ∷ [])
 
 -- the module's synthetic unit, and the carried one
 widths-no_lines : widths_of_module (module_with abbreviations_no_lines info_no_lines []) ≡ (698 + 233 + 575) ∷ (176 + 91 + 117) ∷ 73 ∷ []

@@ -26,6 +26,7 @@ use Rattle.dwc_native.specs.Compiled.{LabelRange, LinkageNames, Memory, no_memor
 use Rattle.dwc_native.specs.Functions.{AddressMap, Function}
 use Rattle.dwc_rules.specs.Carried.{Compilation}
 use Rattle.dwc_dwarf.specs.ReadUnits.{Unit, units, table_of_unit}
+use Rattle.dwc_output.specs.PathFields.{header_paths_at}
 use Rattle.dwc_output.specs.Fields.{fields_at, fields_of_entry, fields_of_instructions, fields_of_line_table, fields_of_named, fields_of_section, relocations_of_fields, IsRelocated, AreRelocated}
 use Rattle.dwc_carried.specs.Forests.{carried_units, first_refusal, trees_made}
 use Rattle.dwc_carried.specs.LinesCarried.{AreImages, KeepsFiles, CarriesUnit, LinesCarried}
@@ -187,9 +188,11 @@ compilation-small = λ i. record {
         told = told-bare runtime_names 0 0 address_map_small no_memory (Some path_small) i;
         file = record file_small_told { path = Some path_small };
         compressed = None;
+        version = 4;
       } ∷ [];
   next_id = 0;
   common_entry = None;
+  version = 4;
 }
 
 -- ---- nothing of it is refused, and nothing is too large
@@ -236,7 +239,7 @@ all-read zero d h = refl
 all-read (suc k) d h = absurd (omega arith)
 
 -- a table that has the files of the small unit's, and the images of its segments
-pub carries_small : (output : Sections) (made : LineTable) → table_of_unit output unit_out ≡ Ok (Some made) → KeepsFiles table_small made → segments made ≡ image_small ∷ [] → CarriesUnit output (record { module_of = named_small module_small; unit = unit_small }) unit_out
+pub carries_small : (output : Sections) (made : LineTable) → table_of_unit output unit_out ≡ Ok (Some made) → KeepsFiles 4 table_small made → segments made ≡ image_small ∷ [] → CarriesUnit 4 output (record { module_of = named_small module_small; unit = unit_small }) unit_out
 carries_small output made read kept same = record {
   input = Some table_small;
   input_read = Base.table-read;
@@ -255,8 +258,8 @@ lines_whole = record {
   each = (
     refl,
     (
-      carries_small (output_sections Little output_whole) (table_of 1 output_whole) refl (record { version = refl; directories = refl; files = refl }) refl,
-      (record { made = table_of 2 output_whole; made_read = refl; version = refl; directories = refl; files = refl; each = tt }, tt),
+      carries_small (output_sections Little output_whole) (table_of 1 output_whole) refl (record { version_is = refl; directories = refl; files = refl }) refl,
+      (record { made = table_of 2 output_whole; made_read = refl; version_is = refl; directories = refl; files = refl; each = tt }, tt),
     ),
   );
 }
@@ -266,7 +269,7 @@ lines_carried-small = subst (λ c. LinesCarried c output_whole) (sym compilation
 
 -- ---- its form
 
-form-whole : HaveTargetForm 8 (units (output_sections Little output_whole)).items
+form-whole : HaveTargetForm 4 8 (units (output_sections Little output_whole)).items
 unfolding whole_on_literals
 form-whole = all-from HasForm (units (output_sections Little output_whole)).items ((refl, refl), ((refl, refl), ((refl, refl), tt)))
 
@@ -278,7 +281,7 @@ unfolding whole_on_literals fields_of_section fields_at fields_of_entry
 relocated-info = refl
 
 relocated-line : relocations_of_fields (fields_of_section (output_sections Little output_whole) Line) ≡ relocations_at 2
-unfolding whole_on_literals fields_of_section fields_of_line_table fields_of_instructions
+unfolding whole_on_literals fields_of_section fields_of_line_table fields_of_instructions header_paths_at
 relocated-line = refl
 
 relocated-ranges : relocations_of_fields (fields_of_section (output_sections Little output_whole) Ranges) ≡ []
@@ -328,6 +331,7 @@ carried_whole = record {
   form = form-whole;
   names = names-from output_whole refl;
   known = refl;
+  of_5 = λ is. absurd (omega (arith, is));
   relocated = related-whole;
   frames = refl;
 }

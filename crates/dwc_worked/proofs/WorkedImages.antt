@@ -180,7 +180,7 @@ below_start = image-by_table 6 (at_line 0 9 ∷ []) (Some 7) (at_line 0 9 ∷ []
 
 -- the small unit with another line table
 abbrev pub with_lines : List ℕ → CarriedUnit
-with_lines lines = record { module_of = record { sections = three_sections abbreviations_small info_small lines; functions = function_small ∷ []; told = nothing_told; file = bare_file 20; compressed = None }; unit = unit_small }
+with_lines lines = record { module_of = record { sections = three_sections abbreviations_small info_small lines; functions = function_small ∷ []; told = nothing_told; file = bare_file 20; compressed = None; version = 4 }; unit = unit_small }
 
 -- the carried segments among known ones, and images of them
 abbrev pub Zipped : List Segment → List Segment → Type 0

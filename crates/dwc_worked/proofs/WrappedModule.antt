@@ -63,9 +63,11 @@ compilation_of context info = record {
     told = record told_small { values = λ number label. unwrap_or (coded ((context_label, context) ∷ []) label) []; register = coded ((2, 14) ∷ []) };
     file = bare_file 20;
     compressed = None;
+    version = 4;
   } ∷ [];
   next_id = 0;
   common_entry = None;
+  version = 4;
 }
 
 -- ---- trees

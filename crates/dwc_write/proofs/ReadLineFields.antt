@@ -1,6 +1,6 @@
 -- The fields of line tables that are spelled are found where they stand, and their relocations are those that are spelled with them:
 -- `tables-found`, `unit_lines-found`, `lines-related`.
-use Rattle.std.proofs.Common.{◌≡◌, ℕ, ◌+◌, ◌^◌, ◌<◌, refl, sym, ap, subst, ◌∙◌, arith, List, [], ◌∷◌, ◌++◌, append_assoc, append-nil, length, map, drop, get_or, Option, Some, None, Ok}
+use Rattle.std.proofs.Common.{◌≡◌, ℕ, ◌+◌, ◌^◌, ◌<◌, lit<, refl, sym, ap, subst, ◌∙◌, arith, List, [], ◌∷◌, ◌++◌, append_assoc, append-nil, length, map, drop, get_or, Option, Some, None, Ok}
 use Rattle.std.specs.Prelude.{is_some}
 use Rattle.std.specs.List.{All, flat_map}
 use Rattle.std.proofs.lemmas.List.{map-append}
@@ -14,16 +14,17 @@ use Rattle.dwc_base.specs.Reading.{◌>>=◌}
 use Rattle.dwc_base.specs.Sections.{Sections, Relocation}
 use Rattle.dwc_base.specs.Units.{UnitHeader}
 use Rattle.dwc_dwarf.specs.Entries.{Entry, attribute}
-use Rattle.dwc_dwarf.specs.LineHeaders.{LineHeader, line_source, Instruction, special, copy, advance_pc, advance_line, set_file, set_column, negate_stmt, set_basic_block, const_add_pc, fixed_advance_pc, set_prologue_end, set_epilogue_begin, set_isa, end_sequence, set_address, define_file, set_discriminator, unknown}
+use Rattle.dwc_dwarf.specs.LineHeaders.{LineFile, LineHeader, LineSource, line_source, Instruction, special, copy, advance_pc, advance_line, set_file, set_column, negate_stmt, set_basic_block, const_add_pc, fixed_advance_pc, set_prologue_end, set_epilogue_begin, set_isa, end_sequence, set_address, define_file, set_discriminator, unknown}
 use Rattle.dwc_dwarf.specs.Indexed.{text_base}
 use Rattle.dwc_dwarf.specs.ReadUnits.{root, line_offset}
 use Rattle.dwc_output.specs.Fields.{Field, an_address, field_of_instruction, fields_of_instructions, fields_of_line_table, fields_of_lines, relocation_of, relocations_of_fields}
 use Rattle.dwc_base.specs.Spelling.{unread_at}
-use Rattle.dwc_base.specs.NumberBytes.{uleb_bytes}
+use Rattle.dwc_output.specs.PathFields.{header_paths_at}
+use Rattle.dwc_base.specs.NumberBytes.{number_bytes, uleb_bytes}
 use Rattle.dwc_section.specs.Spelled.{at_places}
 use Rattle.dwc_section.specs.SpelledAddresses.{AddressField, address_bytes, stored, IsHeld}
 use Rattle.dwc_unit.specs.SpelledUnits.{written_value, WrittenAttribute, header_length, read_entries}
-use Rattle.dwc_unit.specs.SpelledLines.{FitsInstruction, instruction_bytes, instruction_fields, program_bytes, program_fields, program_place, read_line_header, WrittenSequence, first_row, sequence_instructions, sequences_instructions}
+use Rattle.dwc_unit.specs.SpelledLines.{FitsInstruction, line_body, line_table_bytes, instruction_bytes, instruction_fields, program_bytes, program_fields, program_place, read_line_header, WrittenSequence, first_row, sequence_instructions, sequences_instructions}
 use Rattle.dwc_write.specs.SpelledSections.{placed_unit_bytes, read_unit, read_units, WrittenTable, one_table_bytes, lines_bytes, one_table_fields, lines_fields, PlacedTable, placed_tables, FitsTable}
 use Rattle.dwc_write.specs.SpelledRelocations.{sequence_bytes, sequence_relocations, sequences_relocations, one_table_relocations, lines_relocations}
 use Rattle.dwc_unit.specs.SpelledTables.{table_bytes}
@@ -34,7 +35,8 @@ use Rattle.dwc_unit.specs.declared.lists.ListPlaces.{ListPlaces}
 use Rattle.dwc_unit.specs.Lists.{behind_attributes}
 use Rattle.dwc_write.specs.Layouts.{behind_unit, AllPlaces, offsets_by_number, places_in, written_lines, written_unit, written_units, written_tables}
 use Rattle.dwc_section.proofs.ReadNumbers.{number_bytes-length}
-use Rattle.dwc_unit.proofs.ReadParts.{Spells-uleb_bytes}
+use Rattle.dwc_unit.proofs.ReadParts.{here, then_read, Spells-number_bytes, Spells-uleb_bytes}
+use Rattle.dwc_unit.proofs.ReadEntries.{sized-reads}
 use Rattle.dwc_unit.proofs.ReadValues.{All-front, All-back}
 use Rattle.dwc_unit.proofs.ReadProgram.{instruction-reads, program-read}
 use Rattle.dwc_unit.proofs.ReadLines.{header-read, sequences-fit}
@@ -135,6 +137,14 @@ lines-related order size ts place =
 abbrev pub IsFound : Sections → ℕ → PlacedTable → Type 0
 IsFound s size p = (base : ℕ) → fields_of_line_table s size base p.offset ≡ Ok (table_fields s.order size p.offset p.table)
 
+-- the names of a table of version 4 stand in place, so there are no fields of them
+names-in_place : (order : Endian) (source : LineSource) (place size : ℕ) (directories : List (List ℕ)) (files : List LineFile) (is : List Instruction) (rest : List ℕ)
+    → length (line_body order size directories files is) < 0xFFFFFFF0 → header_paths_at source size (unread_at order place (line_table_bytes order size directories files is ++ rest)) ≡ Ok []
+unfolding header_paths_at
+names-in_place order source place size directories files is rest small =
+    then_read _ (sized-reads order place (line_body order size directories files is) small)
+    (then_read _ (here _ (Spells-number_bytes order 2 4 (lit< tt))) refl)
+
 module _ (s : Sections) (size : ℕ) where
   table-found : (place : ℕ) (t : WrittenTable) (rest : List ℕ) → size < 2 ^ 63 → FitsTable s.order size t → All (IsHeld (s.relocations Line)) (one_table_fields s.order size place t)
       → drop place (s.bytes Line) ≡ one_table_bytes s.order size t ++ rest → IsFound s size (record { offset = place; table = t })
@@ -145,9 +155,10 @@ module _ (s : Sections) (size : ℕ) where
       let fit = sequences-fit size t.sequences short fits.sequences in
       let at = place + program_place t.directories t.files in
       let header = header-read s.order (line_source s base) place size t.directories t.files is rest fits.directories fits.files fits.short in
+      let names = names-in_place s.order (line_source s base) place size t.directories t.files is rest fits.short in
       let program = program-read (s.relocations Line) h refl refl s.order is at fit.all held in
       let found = instructions-found (s.relocations Line) h refl refl s.order is at fit.all held in
-      rw (stands, header, ◌>>=◌, program) (ap Ok found)
+      rw (stands, header, ◌>>=◌, names, program) (ap Ok found)
 
   -- The fields of each line table of a section are found at its offset.
   pub tables-found : (place : ℕ) (ts : List WrittenTable) (rest : List ℕ) → size < 2 ^ 63 → All (FitsTable s.order size) ts → All (IsHeld (s.relocations Line)) (lines_fields s.order size place ts)

@@ -262,7 +262,7 @@ carries-trees order texts us writable known short plain fits lines sound =
 
 -- ---- the form of the units
 
-forms-read : (s : Sections) (size : ℕ) (us : List OrderedUnit) (vs : List ReadUnit) → All (λ u. u.address_size ≡ size) us → AllZip (IsReadUnit s) us vs → HaveTargetForm size vs
+forms-read : (s : Sections) (size : ℕ) (us : List OrderedUnit) (vs : List ReadUnit) → All (λ u. u.address_size ≡ size) us → AllZip (IsReadUnit s) us vs → HaveTargetForm 4 size vs
 forms-read s size [] [] sized read = All-nil _
 forms-read s size [] (v ∷ vs) sized read = absurd read
 forms-read s size (u ∷ us) [] sized read = absurd read
@@ -272,7 +272,7 @@ forms-read s size (u ∷ us) (v ∷ vs) sized read =
     (forms-read s size us vs (All-tail (λ (g : OrderedUnit). g.address_size ≡ size) u us sized) read.1)
 
 -- Sections that read back as given units of a size have units of version 4 and of this size.
-pub target-form : (order : Endian) (us : List OrderedUnit) (s : List OutputSection) (size : ℕ) → All (λ u. u.address_size ≡ size) us → ReadsBack order us s → HaveTargetForm size (units (output_sections order s)).items
+pub target-form : (order : Endian) (us : List OrderedUnit) (s : List OutputSection) (size : ℕ) → All (λ u. u.address_size ≡ size) us → ReadsBack order us s → HaveTargetForm 4 size (units (output_sections order s)).items
 target-form order us s size sized back =
     let read = back.units_read in
     rw (read) (forms-read (output_sections order s) size us back.read sized back.each)

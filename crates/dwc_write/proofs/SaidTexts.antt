@@ -3,6 +3,7 @@ use Rattle.std.proofs.Common.{◌≡◌, ◌⊎◌, inl, inr, ℕ, suc, ◌<◌,
 use Rattle.std.specs.Prelude.{◌==◌, ◌||◌, if◌then◌else◌}
 use Rattle.std.specs.List.{All, filter_map, flat_map, list_any}
 use Rattle.std.specs.Str.{bytes_eq}
+use Rattle.std.specs.Cmp.Lexicographic.{bytes_decides}
 use Rattle.std.proofs.lemmas.Bool.{eq-eqb, eqb-true, ltb-false, ltb-true}
 use Rattle.std.proofs.lemmas.List.{map-append}
 use Rattle.std.proofs.lemmas.List.Elements.{All-head, All-nil, All-push, All-tail, filter_map-append}
@@ -24,7 +25,6 @@ use Rattle.dwc_unit.specs.WidestGiven.{IsWideRefusal, widest_said}
 use Rattle.dwc_base.specs.declared.section_name.SectionName.TheVariants.{Str}
 use Rattle.dwc_section.specs.Writers.{most_bytes}
 use Rattle.dwc_section.proofs.RefusalLaws.{past-among, size-refusal}
-use Rattle.dwc_unit.proofs.TextSets.{bytes-same}
 
 nothing-said : (o : Option (ℕ × ℕ)) (rest : List TreeValue) → filter_map text_said (entry_or_nothing o ∷ rest) ≡ filter_map text_said rest
 nothing-said None rest = refl
@@ -92,7 +92,7 @@ module _ (texts : List (List ℕ)) (table : AreTexts texts) where
   numbers-equal n k here there =
       bools-same (bytes_eq (text_numbered texts n) (text_numbered texts k)) (k == n)
       (λ e. eq-eqb k n (sym (number-same n k here there ((bytes_eq-Decides (text_numbered texts n) (text_numbered texts k)).0 e))))
-      (λ e. ap (λ j. bytes_eq (text_numbered texts n) (text_numbered texts j)) (eqb-true k n e) ∙ bytes-same (text_numbered texts n))
+      (λ e. ap (λ j. bytes_eq (text_numbered texts n) (text_numbered texts j)) (eqb-true k n e) ∙ (bytes_decides (text_numbered texts n) (text_numbered texts n)).1 refl)
 
   any-same : (n : ℕ) (before : List ℕ) → n < length texts → All (λ k. k < length texts) before → list_any (bytes_eq (text_numbered texts n)) (map (text_numbered texts) before) ≡ list_any (λ k. k == n) before
   any-same n [] here all = refl

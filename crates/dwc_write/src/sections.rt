@@ -82,7 +82,7 @@ pub fn write_sections(
     ensures read { IfOk result (λ s. ReadsBack order (map ordered dwarf.units.units.items) (map section_view s.items)) }
     ensures trees { IfOk result (λ s. CarriesTrees order (given_trees dwarf.strings (map ordered dwarf.units.units.items)) (map section_view s.items)) }
     ensures texts_once { IfOk result (λ s. HasTextsOnce (output_sections order (map section_view s.items))) }
-    ensures form { IfOk result (λ s. (size : ℕ) → All (λ u. u.address_size ≡ size) dwarf.units.units.items → HaveTargetForm size (units (output_sections order (map section_view s.items))).items) }
+    ensures form { IfOk result (λ s. (size : ℕ) → All (λ u. u.address_size ≡ size) dwarf.units.units.items → HaveTargetForm 4 size (units (output_sections order (map section_view s.items))).items) }
     ensures names { IfOk result (λ s. HasDistinctNames (map section_view s.items)) }
     ensures relocated { IfOk result (λ s. All (IsRelocated (output_sections order (map section_view s.items))) (others_in (map section_view s.items))) }
     ensures frames { IfOk result (λ s. FramesCarried order (size_of (map ordered dwarf.units.units.items)) (common_given frames) (descriptions_given frames) (map section_view s.items)) }
@@ -133,7 +133,7 @@ fn write_unit_sections(
     ensures read { IfOk result (λ s. ReadsBack order (map ordered dwarf.units.units.items) (map section_view s.items)) }
     ensures trees { IfOk result (λ s. CarriesTrees order (given_trees dwarf.strings (map ordered dwarf.units.units.items)) (map section_view s.items)) }
     ensures texts_once { IfOk result (λ s. HasTextsOnce (output_sections order (map section_view s.items))) }
-    ensures form { IfOk result (λ s. (size : ℕ) → All (λ u. u.address_size ≡ size) dwarf.units.units.items → HaveTargetForm size (units (output_sections order (map section_view s.items))).items) }
+    ensures form { IfOk result (λ s. (size : ℕ) → All (λ u. u.address_size ≡ size) dwarf.units.units.items → HaveTargetForm 4 size (units (output_sections order (map section_view s.items))).items) }
     ensures names { IfOk result (λ s. HasDistinctNames (map section_view s.items)) }
     ensures relocated { IfOk result (λ s. AreRelocated order (map section_view s.items)) }
     ensures expressions { (result ≡ Err (TooLarge Expression)) ↔ (have_short_expressions (given_trees dwarf.strings (map ordered dwarf.units.units.items)) ≡ false) }

@@ -18,7 +18,7 @@ module_places-requires g c = record { functions = c.args.transform.now; sections
 pub carry_units-requires-clause-read : goal.carry_units-requires-clause-read
 carry_units-requires-clause-read g c = record {
   of = transformed_module c.args.translation.now c.args.transform.now (told_by ((goal.TargetIsa-dyn g c.args.isa.now).dwarf_registers c.args.isa.now.1) c.args.compiled.now);
-  is = record { functions = refl; told_is = refl; is = (rw c.sections_of.ensures.sections at c.in_ok-module.ensures).1; bytes = c.sections_of.ensures.bytes };
+  is = record { functions = refl; told_is = refl; version_is = refl; is = (rw c.sections_of.ensures.sections at c.in_ok-module.ensures).1; bytes = c.sections_of.ensures.bytes };
 }
 
 pub carry_units-requires-clause-places : goal.carry_units-requires-clause-places
@@ -30,7 +30,7 @@ returns-clause-added g c = λ synthetic at.
     let given = rw c.sections_of.ensures.sections at c.in_ok-module.ensures in
     let m = transformed_module c.args.translation.now c.args.transform.now told in
     module-gives m c.in_default.is c.args.form.encoding.address_size c.args.form.big_endian given.0 given.1.whole synthetic c.args.dwarf.now c.carry_units.new.dwarf c.carry_units.result
-    (c.carry_units.ensures.added m synthetic at (record { functions = refl; told_is = refl; is = given.1; bytes = c.sections_of.ensures.bytes }))
+    (c.carry_units.ensures.added m synthetic at (record { functions = refl; told_is = refl; version_is = refl; is = given.1; bytes = c.sections_of.ensures.bytes }))
 
 pub returns-in-Some-clause-added : goal.returns-in-Some-clause-added
 returns-in-Some-clause-added g c = λ synthetic at.
@@ -40,4 +40,4 @@ returns-in-Some-clause-added g c = λ synthetic at.
 pub returns-clause-noted : goal.returns-clause-noted
 returns-clause-noted g c =
     let told = told_by ((goal.TargetIsa-dyn g c.args.isa.now).dwarf_registers c.args.isa.now.1) c.args.compiled.now in
-    c.carry_units.ensures.noted (transformed_module c.args.translation.now c.args.transform.now told) (record { functions = refl; told_is = refl; is = (rw c.sections_of.ensures.sections at c.in_ok-module.ensures).1; bytes = c.sections_of.ensures.bytes })
+    c.carry_units.ensures.noted (transformed_module c.args.translation.now c.args.transform.now told) (record { functions = refl; told_is = refl; version_is = refl; is = (rw c.sections_of.ensures.sections at c.in_ok-module.ensures).1; bytes = c.sections_of.ensures.bytes })

@@ -24,5 +24,5 @@ returns c = λ order size registers entry v is.
     (rw is.order_is at written.read) (rw is.order_is at written.trees) (rw is.order_is at written.texts_once)
     (rw is.order_is at written.form) written.refused written.expressions
     written.names (rw is.order_is at written.relocated) (rw is.order_is at written.frames) (rw is.order_is at written.sound) (rw is.order_is at written.spelled)
-    (ap are_of_output written.sections ∙ written-of_output self.order self.dwarf.strings self.dwarf.units.units.items self.frames)
+    (ap (are_of_output 4) written.sections ∙ written-of_output self.order self.dwarf.strings self.dwarf.units.units.items self.frames)
     c.translations_keep_scopes.ensures.keep c.translations_keep_scopes.ensures.made
