@@ -10,10 +10,10 @@
 - tails_into_a_ring: N pointers that go by N constants into one ring of N pointers, at one place.
 - tails_around_a_ring: N pointers that go by N constants of N constants into one ring of N pointers, at N places.
 - tails_around_two_rings: N references that go by N constants into two rings of N / 2 references, at N places.
-
-For this one the time still grows faster than what is read and written:
-
 - texts_of_one_hash: N names that the hash of the table of texts takes for one.
+- texts_of_close_hash: N names elsewhere, at offsets whose hashes stand close together in a table of N.
+- shapes_of_close_hash: N entries of N shapes, whose hashes stand close together in a table of N.
+- texts_of_one_slot: N names elsewhere, at offsets that share 64 slots of the table of known texts.
 """
 
 import itertools
@@ -193,6 +193,9 @@ KINDS = {
     "texts_of_one_hash": lambda n: [texts_of_one_hash_module(n)],
     "tails": lambda n: [tails_module(n)],
     "tails_of_two": lambda n: [tails_module(n, 2)],
+    "texts_of_close_hash": lambda n: [texts_of_close_hash_module(n)],
+    "texts_of_one_slot": lambda n: [texts_of_one_slot_module(n)],
+    "shapes_of_close_hash": lambda n: [shapes_of_close_hash_module(n)],
     "tails_into_a_ring": lambda n: [tails_into_rings_module(n)],
     "tails_around_a_ring": lambda n: [tails_into_rings_module(n, step=5, levels=2)],
     "tails_around_two_rings": lambda n: [tails_into_rings_module(n, code=7, rings=2, step=5)],
@@ -207,6 +210,9 @@ SIZES = {
     "texts_of_one_hash": [10000, 20000],
     "tails": [20000, 40000],
     "tails_of_two": [20000, 40000],
+    "texts_of_close_hash": [32000, 64000],
+    "texts_of_one_slot": [32000, 64000],
+    "shapes_of_close_hash": [32000, 64000],
     "tails_into_a_ring": [20000, 40000],
     "tails_around_a_ring": [20000, 40000],
     "tails_around_two_rings": [20000, 40000],
