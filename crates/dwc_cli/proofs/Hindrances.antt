@@ -1,6 +1,6 @@
 -- What is said of an input by what hinders its lines from being carried.
 use Rattle.std.proofs.Common.{◌≡◌, ℕ, List, [], ◌∷◌, Option, Some, None, true, false, refl, sym, ap, ◌∙◌, subst, arith, inl, inr}
-use Rattle.std.specs.Prelude.{option_map, unwrap_or, IsSome}
+use Rattle.std.specs.Prelude.{option_map, IsSome}
 use Rattle.dwc_base.specs.Outputs.{OutputSection}
 use Rattle.dwc_base.specs.Sections.{unreadable, unsupported}
 use Rattle.dwc_rules.specs.Refusals.{Refusal, of_place, missing_file, long_function, long_range, bad_label, lacks_memory, unmapped_register, long_jump, far_memory, bad_path, of_frame}
@@ -13,9 +13,7 @@ use Rattle.dwc_cli.specs.Answers.{first_status, hindrance, IsEmitted, IsCause, C
 use Rattle.dwc_cli.proofs.Statuses.{is_one_of, IsOneOf-from, IsOneOf-more, IsOneOf-other}
 use Rattle.std.proofs.lemmas.Bool.{false≢true}
 use Rattle.dwc_cli.proofs.SoundText.{plain-sound}
-
-same_some : {A : Type 0} (x y : A) → Some x ≡ Some y → x ≡ y
-same_some x y e = ap (λ o. unwrap_or o x) e
+use Rattle.dwc_cli.proofs.Options.{same_some}
 
 none≢some : {A : Type 0} {x : A} → None ≡ Some x → ⊥
 none≢some e = cc

@@ -1,6 +1,6 @@
 -- The files that the words of a run name, and what was read of them.
 use Rattle.std.proofs.Common.{◌≡◌, ℕ, zero, suc, ◌<◌, ◌≤◌, List, [], ◌∷◌, ◌++◌, length, map, Option, Some, None, refl, sym, ap, ◌∙◌, subst, arith}
-use Rattle.std.specs.Prelude.{unwrap_or, Any, All, get_or, drop, slice_index_or}
+use Rattle.std.specs.Prelude.{Any, All, get_or, drop, slice_index_or}
 use Rattle.std.specs.List.{AllZip}
 use Rattle.std.proofs.lemmas.List.{drop_all}
 use Rattle.std.specs.FinMap as finite
@@ -8,9 +8,7 @@ use Rattle.dwc_cli.specs.Inputs.{Paths, paths_of, all_paths, Input, all_files}
 use Rattle.dwc_cli.specs.RunStatus.{Files, Names, LacksFile, IsTooLong, most_bytes}
 use Rattle.dwc_cli.specs.Edge.{IsFile, IsReadFile, IsLongFile}
 use Rattle.dwc_cli.specs.Answers.{IsInput}
-
-same_some : {A : Type 0} (x y : A) → Some x ≡ Some y → x ≡ y
-same_some x y e = ap (λ o. unwrap_or o x) e
+use Rattle.dwc_cli.proofs.Options.{same_some}
 
 -- some element of a list but the first
 Any-tail : {A : Type 0} (P : A → Type 0) (x : A) (xs : List A) (k : ℕ) (y : A) → k < length xs → slice_index_or xs k y ≡ y → P y → Any P xs

@@ -1,19 +1,25 @@
 -- What is printed of an input means what it does.
 use Rattle.std.proofs.Common.{◌≡◌, ◌⊎◌, inl, inr, ℕ, List, Option}
 use Rattle.dwc_carry.proofs.Meaning.EmitMeanings.{output-means}
+use Rattle.dwc_carry.specs.MeaningsCarried.{OutputMeans}
 use Rattle.dwc_cli.specs.Calls.{Call}
 use Rattle.dwc_cli.specs.Inputs.{Input, compilation_of}
 use Rattle.dwc_cli.specs.RunStatus.{Files, Names, Reads, Carries, Succeeds, SaysOfRead}
 use Rattle.dwc_cli.specs.RunMeanings.{PrintsMeant, RunMeans}
+use Rattle.dwc_cli.proofs.ToldBounds.{told-bounded}
 
 carries-mean : (input : Input) (before now : Option (List ℕ)) → Carries input before now → PrintsMeant input before now
-carries-mean input before now k = record {
-  sections = k.sections;
-  read = k.carry.read;
-  is_read = k.carry.is_read;
-  written = k.written;
-  means = output-means (compilation_of k.carry.read) k.sections k.carry.carried;
-}
+carries-mean input before now k =
+    let meant : OutputMeans (compilation_of k.carry.read) k.sections = output-means (compilation_of k.carry.read) k.sections k.carry.carried in
+    record {
+      sections = k.sections;
+      read = k.carry.read;
+      is_read = k.carry.is_read;
+      written = k.written;
+      said = meant.said;
+      trees = meant.trees;
+      means = meant.means (told-bounded input k.carry.read k.carry.is_read);
+    }
 
 -- of a run that ends well
 pub run-means : (files : Option Files) (words : List (List ℕ)) (asked_before asked_now : List Call) (before now : Option (List ℕ)) (status read_before read_now write_before write_now : ℕ) → status ≡ 0 → Succeeds files words before now

@@ -34,7 +34,7 @@ pub fn run<S: Source, K: Sink, E: Sink>(
     // 0: the printed sections hold exactly the images of the input's carried line sequences.
     ensures carried { result ≡ 0 → Succeeds (S.files source.old) (map string_bytes words.now) (K.written out.old) (K.written out.new) }
 
-    // And their expressions mean what those of the input do, where what is told of its modules is bounded.
+    // And their expressions mean what those of the input do.
     ensures means { result ≡ 0 → RunMeans (S.files source.old) (map string_bytes words.now) (S.asked source.old) (S.asked source.new) (K.written out.old) (K.written out.new) }
 
     // Every other status has its cause, and want of memory, 9, may come at any time.
