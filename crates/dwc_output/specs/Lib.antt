@@ -11,3 +11,4 @@ pub mod FieldKinds
 pub mod NewListFields
 pub mod PathFields
 pub mod OwnDirectories
+pub mod NewWidest
