@@ -1,6 +1,6 @@
 //! Texts in the order in which they were added, each once.
 ghost use Rattle.std.specs.Prelude.{◌≡◌, ◌<◌, [], OnOk, OnErr, IfOk};
-ghost use Rattle.std.specs.List.{All, position_or_len};
+ghost use Rattle.std.specs.List.{All, position, position_or_len};
 ghost use Rattle.std.specs.Str.{bytes_eq};
 ghost use Rattle.dwc_dwarf.specs.TreeLaws.{with_new_text};
 
@@ -60,6 +60,15 @@ impl Texts {
         self.index.note(alloc, place, number, known, text)?;
         self.texts.push_reserved(owned);
         Ok(place)
+    }
+
+    /// The place of a text among them, if it is one of them.
+    pub fn find(&self, text: &[u8]) -> Option<usize>
+        ensures { result ≡ position (bytes_eq text.now) self.now }
+    {
+        let number = number_of(text);
+        let known = self.index.known(number);
+        self.index.find(&self.texts, known, text)
     }
 
     /// The texts in their order.
