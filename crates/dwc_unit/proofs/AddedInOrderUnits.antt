@@ -94,8 +94,8 @@ numbered-set u id name value numbered = go (place_of id u.places)
 -- ---- file order
 
 -- A new unit has a root alone.
-pub in-order-root : (size : ℕ) (lines : GivenLines) → IsInOrder (0 ∷ []) (new_unit size lines)
-in-order-root size lines = record { counted = refl; some = omega arith; root = refl; parents = λ place above within. absurd (omega (arith, above, within)) }
+pub in-order-root : (version size : ℕ) (lines : GivenLines) → IsInOrder (0 ∷ []) (new_unit version size lines)
+in-order-root version size lines = record { counted = refl; some = omega arith; root = refl; parents = λ place above within. absurd (omega (arith, above, within)) }
 
 get_or-last : {A : Type 0} (xs : List A) (x d : A) → get_or (xs ++ x ∷ []) (length xs) d ≡ x
 get_or-last [] x d = refl

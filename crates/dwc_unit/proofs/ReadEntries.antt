@@ -1,4 +1,4 @@
--- A unit of version 4 that is spelled is read again. `header-read`: its header, wherever it stands. `unit-entries`: its entries,
+-- A unit that is spelled is read again. `header-read`: its header, wherever it stands. `unit-entries`: its entries,
 -- where its table is known, each entry's code names its declaration there, and the relocations hold. `entries-read` is the same
 -- for entries below a depth, with whatever follows them.
 use Rattle.std.proofs.Common.{◌≡◌, ℕ, zero, suc, ◌+◌, ◌-◌, add-zero, ◌^◌, ◌<◌, ◌≤◌, refl, sym, ap, ◌∙◌, arith, lit<, List, [], ◌∷◌, ◌++◌, ◌⊎◌, inl, inr, append_assoc, length, length-append, append-nil, Some, None, Ok, Err, true, false, ltb, eqb}
@@ -8,19 +8,21 @@ use Rattle.std.proofs.lemmas.Bool.{lt-ltb, le-ltb, lt-leb, ne_eqb, cases_lt}
 use Rattle.std.proofs.lemmas.List.{length-replicate}
 use Rattle.std.proofs.lemmas.List.Elements.{All-head, All-tail}
 use Rattle.dwc_base.specs.declared.records.Endian.{Endian}
+use Rattle.dwc_base.specs.declared.constants.TheConstants.{DW_UT_compile}
 use Rattle.dwc_base.specs.declared.faults.Flaw.TheVariants.{Malformed}
 use Rattle.dwc_base.specs.declared.section_name.SectionName.TheVariants.{Info}
 use Rattle.dwc_base.specs.Reading.{Unread, ◌>>=◌, uleb_at}
 use Rattle.dwc_base.specs.Listing.{with_first}
 use Rattle.dwc_base.specs.Sections.{Sections}
 use Rattle.dwc_base.specs.Abbreviations.{Declaration, declaration_of, abbreviation_table}
-use Rattle.dwc_base.specs.Units.{UnitHeader, sized_part_at, header_to_4, unit_header_at}
+use Rattle.dwc_base.specs.Units.{UnitHeader, dwo_id_at, sized_part_at, header_of_5, header_to_4, unit_header_at}
 use Rattle.dwc_dwarf.specs.Entries.{Found, entry_place, place_behind, declared_entry_at, entry_at, entries_from, entries}
 use Rattle.dwc_base.specs.Spelling.{unread_at}
 use Rattle.dwc_base.specs.NumberBytes.{number_bytes, uleb_bytes}
 use Rattle.dwc_section.specs.Spelled.{SpellsAt, sized_bytes}
 use Rattle.dwc_section.specs.SpelledAddresses.{IsHeld}
-use Rattle.dwc_unit.specs.SpelledUnits.{WrittenEntry, Shaped, next_depth, shaped, attribute_bytes, entry_bytes, entry_fields, read_entry, entries_bytes, entries_fields, read_entries, AreBelow, IsTree, FitsEntry, unit_body, unit_bytes, read_header, header_length}
+use Rattle.dwc_unit.specs.SpelledUnits.{WrittenEntry, Shaped, next_depth, shaped, attribute_bytes, entry_bytes, entry_fields, read_entry, entries_bytes, entries_fields, read_entries, AreBelow, IsTree, FitsEntry, behind_version, unit_body, unit_bytes, read_header, header_length}
+use Rattle.dwc_unit.specs.GivenUnits.{IsWrittenVersion}
 use Rattle.dwc_section.proofs.ReadNumbers.{number_bytes-length}
 use Rattle.dwc_unit.proofs.ReadParts.{here, behind, last, tested, part-reads, Spells-number_bytes, Spells-uleb_bytes, Spells-byte, Spells-zero}
 use Rattle.dwc_unit.proofs.ReadValues.{attributes-read, All-front, All-back}
@@ -44,21 +46,45 @@ known-size : (size : ℕ) → (size ≡ 4) ⊎ (size ≡ 8) → (eqb size 4 || e
 known-size size (inl e) = rw (e) refl
 known-size size (inr e) = rw (e) refl
 
-fields-read : (order : Endian) (size table_offset offset end place : ℕ) (es : List WrittenEntry) → (size ≡ 4) ⊎ (size ≡ 8) → table_offset < 256 ^ 4
-    → header_to_4 offset end 4 (unread_at order place (number_bytes order 4 table_offset ++ ((size ∷ []) ++ entries_bytes order size es)))
-    ≡ Ok (record { offset = offset; end = end; version = 4; address_size = size; unit_type = 1; abbreviations = table_offset; dwo_id = None; content = unread_at order (place + 5) (entries_bytes order size es) })
-unfolding header_to_4
-fields-read order size table_offset offset end place es known table =
-    rw ((Spells-number_bytes order 4 table_offset table).reads, number_bytes-length order 4 table_offset, (Spells-byte order size).reads, known-size size known)
-    (ap (λ p. Ok (record { offset = offset; end = end; version = 4; address_size = size; unit_type = 1; abbreviations = table_offset; dwo_id = None; content = unread_at order p (entries_bytes order size es) })) (omega arith))
+-- the header of a unit of a version that ends somewhere, whose entries stand at a place
+abbrev header_with : ℕ → Endian → ℕ → ℕ → ℕ → ℕ → ℕ → List WrittenEntry → UnitHeader
+header_with version order size table_offset offset end place es =
+    record { offset = offset; end = end; version = version; address_size = size; unit_type = DW_UT_compile; abbreviations = table_offset; dwo_id = None; content = unread_at order place (entries_bytes order size es) }
 
-pub header-read : (order : Endian) (place size table_offset : ℕ) (es : List WrittenEntry) → (size ≡ 4) ⊎ (size ≡ 8) → table_offset < 256 ^ 4 → length (unit_body order size table_offset es) < 0xFFFFFFF0
-    → SpellsAt order place unit_header_at (unit_bytes order size table_offset es) (read_header order size table_offset place es)
+old-fields-read : (order : Endian) (size table_offset offset end place : ℕ) (es : List WrittenEntry) → (size ≡ 4) ⊎ (size ≡ 8) → table_offset < 256 ^ 4
+    → header_to_4 offset end 4 (unread_at order place (behind_version 4 order size table_offset es)) ≡ Ok (header_with 4 order size table_offset offset end (place + 5) es)
+unfolding header_to_4
+old-fields-read order size table_offset offset end place es known table =
+    rw ((Spells-number_bytes order 4 table_offset table).reads, number_bytes-length order 4 table_offset, (Spells-byte order size).reads, known-size size known)
+    (ap (λ p. Ok (header_with 4 order size table_offset offset end p es)) (omega arith))
+
+new-fields-read : (order : Endian) (size table_offset offset end place : ℕ) (es : List WrittenEntry) → (size ≡ 4) ⊎ (size ≡ 8) → table_offset < 256 ^ 4
+    → header_of_5 offset end (unread_at order place (behind_version 5 order size table_offset es)) ≡ Ok (header_with 5 order size table_offset offset end (place + 6) es)
+unfolding header_of_5 dwo_id_at
+new-fields-read order size table_offset offset end place es known table =
+    rw ((Spells-byte order DW_UT_compile).reads, (Spells-byte order size).reads, known-size size known, (Spells-number_bytes order 4 table_offset table).reads, number_bytes-length order 4 table_offset)
+    (ap (λ p. Ok (header_with 5 order size table_offset offset end p es)) (omega arith))
+
+old-header-read : (order : Endian) (place size table_offset : ℕ) (es : List WrittenEntry) → (size ≡ 4) ⊎ (size ≡ 8) → table_offset < 256 ^ 4 → length (unit_body 4 order size table_offset es) < 0xFFFFFFF0
+    → SpellsAt order place unit_header_at (unit_bytes 4 order size table_offset es) (read_header 4 order size table_offset place es)
 unfolding unit_header_at
-header-read order place size table_offset es known table small = record {
-  reads = λ rest. rw (unit_header_at, (sized-reads order place (unit_body order size table_offset es) small).reads, (Spells-number_bytes order 2 4 (lit< tt)).reads, number_bytes-length order 2 4, fields-read order size table_offset place (place + length (unit_bytes order size table_offset es)) ((place + 4) + 2) es known table)
-      (ap (λ p. Ok (record { offset = place; end = place + length (unit_bytes order size table_offset es); version = 4; address_size = size; unit_type = 1; abbreviations = table_offset; dwo_id = None; content = unread_at order p (entries_bytes order size es) }, unread_at order (place + length (unit_bytes order size table_offset es)) rest)) (omega arith));
+old-header-read order place size table_offset es known table small = record {
+  reads = λ rest. rw (unit_header_at, (sized-reads order place (unit_body 4 order size table_offset es) small).reads, (Spells-number_bytes order 2 4 (lit< tt)).reads, number_bytes-length order 2 4, old-fields-read order size table_offset place (place + length (unit_bytes 4 order size table_offset es)) ((place + 4) + 2) es known table)
+      (ap (λ p. Ok (header_with 4 order size table_offset place (place + length (unit_bytes 4 order size table_offset es)) p es, unread_at order (place + length (unit_bytes 4 order size table_offset es)) rest)) (omega arith));
 }
+
+new-header-read : (order : Endian) (place size table_offset : ℕ) (es : List WrittenEntry) → (size ≡ 4) ⊎ (size ≡ 8) → table_offset < 256 ^ 4 → length (unit_body 5 order size table_offset es) < 0xFFFFFFF0
+    → SpellsAt order place unit_header_at (unit_bytes 5 order size table_offset es) (read_header 5 order size table_offset place es)
+unfolding unit_header_at
+new-header-read order place size table_offset es known table small = record {
+  reads = λ rest. rw (unit_header_at, (sized-reads order place (unit_body 5 order size table_offset es) small).reads, (Spells-number_bytes order 2 5 (lit< tt)).reads, number_bytes-length order 2 5, new-fields-read order size table_offset place (place + length (unit_bytes 5 order size table_offset es)) ((place + 4) + 2) es known table)
+      (ap (λ p. Ok (header_with 5 order size table_offset place (place + length (unit_bytes 5 order size table_offset es)) p es, unread_at order (place + length (unit_bytes 5 order size table_offset es)) rest)) (omega arith));
+}
+
+pub header-read : (version : ℕ) (order : Endian) (place size table_offset : ℕ) (es : List WrittenEntry) → IsWrittenVersion version → (size ≡ 4) ⊎ (size ≡ 8) → table_offset < 256 ^ 4 → length (unit_body version order size table_offset es) < 0xFFFFFFF0
+    → SpellsAt order place unit_header_at (unit_bytes version order size table_offset es) (read_header version order size table_offset place es)
+header-read version order place size table_offset es (inl e) known table small = rw (e) (old-header-read order place size table_offset es known table (rw (e) at small))
+header-read version order place size table_offset es (inr e) known table small = rw (e) (new-header-read order place size table_offset es known table (rw (e) at small))
 
 -- ---- entries
 
@@ -83,7 +109,7 @@ grouped a b c d r = simp append_assoc
 lengths : (a b c : List ℕ) → length (a ++ (b ++ c)) ≡ length (a ++ b) + length c
 lengths a b c = simp (length-append) (omega arith)
 
-module _ (s : Sections) (h : UnitHeader) (version : h.version ≡ 4) (table : List Declaration) where
+module _ (s : Sections) (h : UnitHeader) (version : IsWrittenVersion h.version) (table : List Declaration) where
   -- an entry's code and values
   one-entry : (order : Endian) (place : ℕ) (x : Shaped) → FitsEntry table h.address_size x → All (IsHeld (s.relocations Info)) (entry_fields order h.address_size place x)
       → SpellsAt order place (entry_at s h table x.entry.depth) (uleb_bytes x.entry.code ++ flat_map (attribute_bytes order h.address_size) x.entry.attributes) (Some (record { entry = read_entry place x; has_children = x.has_children }))
@@ -176,11 +202,11 @@ module _ (s : Sections) (h : UnitHeader) (version : h.version ≡ 4) (table : Li
       ap (λ d. entries_from s h table (Some (record { depth = d; unread = unread_at order place (entries_bytes order h.address_size (e ∷ es) ++ rest) }))) (sym root) ∙ inner
 
 -- The entries of a unit that is spelled are those that were given.
-pub unit-entries : (s : Sections) (size table_offset place : ℕ) (es : List WrittenEntry) (table : List Declaration) → abbreviation_table s table_offset ≡ Ok table
-    → All (FitsEntry table size) (shaped es) → IsTree es → All (IsHeld (s.relocations Info)) (entries_fields s.order size (place + header_length) es)
-    → entries s (read_header s.order size table_offset place es) ≡ record { items = read_entries s.order size (place + header_length) es; fault = None }
+pub unit-entries : (s : Sections) (version size table_offset place : ℕ) (es : List WrittenEntry) (table : List Declaration) → IsWrittenVersion version → abbreviation_table s table_offset ≡ Ok table
+    → All (FitsEntry table size) (shaped es) → IsTree es → All (IsHeld (s.relocations Info)) (entries_fields s.order size (place + header_length version) es)
+    → entries s (read_header version s.order size table_offset place es) ≡ record { items = read_entries s.order size (place + header_length version) es; fault = None }
 unfolding entries
-unit-entries s size table_offset place es table known fits tree held =
-    let h = read_header s.order size table_offset place es in
-    let inner = tree-read s h refl table s.order es (place + header_length) [] (λ e. refl) fits tree held in
+unit-entries s version size table_offset place es table written known fits tree held =
+    let h = read_header version s.order size table_offset place es in
+    let inner = tree-read s h written table s.order es (place + header_length version) [] (λ e. refl) fits tree held in
     rw (entries, known) (rw (append-nil (entries_bytes s.order size es)) at inner)

@@ -1,5 +1,5 @@
 -- Values that are spelled are read again, form by form: one line of `value-reads` a form. `attributes-read`: those of an entry.
-use Rattle.std.proofs.Common.{◌≡◌, ℕ, zero, suc, ◌+◌, ◌^◌, ◌<◌, refl, ap, ◌∙◌, arith, List, [], ◌∷◌, ◌++◌, get_or, length, Ok, true, false, map}
+use Rattle.std.proofs.Common.{◌≡◌, ℕ, zero, suc, ◌+◌, ◌^◌, ◌<◌, refl, ap, ◌∙◌, arith, List, [], ◌∷◌, ◌++◌, get_or, length, Ok, true, false, map, inl, inr}
 use Rattle.std.specs.List.{All, flat_map}
 use Rattle.std.proofs.lemmas.List.Elements.{All-cons, All-head, All-tail}
 use Rattle.dwc_base.specs.declared.records.Endian.{Endian}
@@ -15,6 +15,7 @@ use Rattle.dwc_base.specs.Spelling.{Spells, unread_at}
 use Rattle.dwc_base.specs.NumberBytes.{number_bytes}
 use Rattle.dwc_section.specs.Spelled.{SpellsAt, block_bytes, at_places}
 use Rattle.dwc_section.specs.SpelledAddresses.{stored, address_bytes, FitsAddress, IsHeld}
+use Rattle.dwc_unit.specs.GivenUnits.{IsWrittenVersion}
 use Rattle.dwc_unit.specs.SpelledUnits.{Written, as_addr, as_data1, as_data2, as_data4, as_data8, as_udata, as_sdata, as_flag, as_block, as_exprloc, as_strp, as_ref4, as_ref_addr, as_sec_offset, written_bytes, FitsWritten, written_value, value_fields, WrittenAttribute, spec_of, attribute_bytes}
 use Rattle.dwc_base.proofs.Spellings.{Spells-number, Spells-bytes}
 use Rattle.dwc_section.proofs.ReadNumbers.{number_bytes-length, number_bytes-number}
@@ -67,7 +68,7 @@ pub Spells-block_bytes : (order : Endian) (bytes : List ℕ) → length bytes < 
 unfolding block_at sized_number_at
 Spells-block_bytes order bytes small = anywhere (λ place. behind _ (here place (Spells-uleb_bytes order (length bytes) small)) (here _ (Spells-bytes order bytes)))
 
-module _ (s : Sections) (h : UnitHeader) (version : h.version ≡ 4) where
+module _ (s : Sections) (h : UnitHeader) (version : IsWrittenVersion h.version) where
   -- a value is read as what its form means
   pub value-reads : (order : Endian) (place : ℕ) (a : WrittenAttribute) → FitsWritten h.address_size a.value → All (IsHeld (s.relocations Info)) (value_fields h.address_size place a.value)
       → SpellsAt order place (value_at s h (spec_of a)) (attribute_bytes order h.address_size a) (written_value a.name a.value)
@@ -79,7 +80,11 @@ module _ (s : Sections) (h : UnitHeader) (version : h.version ≡ 4) where
       go (as_addr x) fits held = seen address (address-reads order (s.relocations Info) place h.address_size x fits (All-head (IsHeld (s.relocations Info)) _ [] held))
       go (as_data1 n) fits held = seen _ (here place (Spells-number_bytes order 1 n fits))
       go (as_data2 n) fits held = seen _ (here place (Spells-number_bytes order 2 n fits))
-      go (as_data4 n) fits held = rw (version) (seen _ (here place (Spells-number_bytes order 4 n fits)))
+      go (as_data4 n) fits held = by_version version
+        where
+          by_version : IsWrittenVersion h.version → SpellsAt order place (value_at s h (spec_of (record { name = a.name; value = as_data4 n }))) (written_bytes order h.address_size (as_data4 n)) (written_value a.name (as_data4 n))
+          by_version (inl e) = rw (e) (seen _ (here place (Spells-number_bytes order 4 n fits)))
+          by_version (inr e) = rw (e) (seen _ (here place (Spells-number_bytes order 4 n fits)))
       go (as_data8 n) fits held = seen _ (here place (Spells-number_bytes order 8 n fits))
       go (as_udata n) fits held = seen _ (here place (Spells-uleb_bytes order n fits))
       go (as_sdata z) fits held = seen _ (here place (Spells-sleb_bytes order z fits))
@@ -89,7 +94,11 @@ module _ (s : Sections) (h : UnitHeader) (version : h.version ≡ 4) where
       go (as_exprloc bytes) fits held = seen _ (here place (Spells-block_bytes order bytes fits))
       go (as_strp n) fits held = seen _ (here place (Spells-number_bytes order 4 n fits))
       go (as_ref4 n) fits held = seen _ (here place (Spells-number_bytes order 4 n fits))
-      go (as_ref_addr n) fits held = rw (version) (seen _ (here place (Spells-number_bytes order 4 n fits)))
+      go (as_ref_addr n) fits held = by_version version
+        where
+          by_version : IsWrittenVersion h.version → SpellsAt order place (value_at s h (spec_of (record { name = a.name; value = as_ref_addr n }))) (written_bytes order h.address_size (as_ref_addr n)) (written_value a.name (as_ref_addr n))
+          by_version (inl e) = rw (e) (seen _ (here place (Spells-number_bytes order 4 n fits)))
+          by_version (inr e) = rw (e) (seen _ (here place (Spells-number_bytes order 4 n fits)))
       go (as_sec_offset section n) fits held = seen _ (here place (Spells-number_bytes order 4 n fits))
 
   -- and so are the values of an entry, one behind another

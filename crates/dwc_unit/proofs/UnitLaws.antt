@@ -52,6 +52,7 @@ set-kept u place name value fits small fit held =
     let same = length-set_in place name value u.additions in
     let few = fits.few in
     record {
+      version = fits.version;
       size = fits.size;
       lines = fits.lines;
       rooted = set-rooted place name value u.additions fits.rooted;
@@ -98,10 +99,11 @@ rooted-push (r ∷ es) e rooted low = behind-push 1 es e rooted (omega (arith, l
 
 -- A further entry leaves the unit as it is to be; its number is a new one, or one that was reserved.
 pub child-kept : (u : GivenUnit) (e : Addition) (ps : List (Option ℕ)) → FitsGivenUnit u → e.parent < length u.additions → e.tag ≤ 65535 → e.attributes ≡ [] → suc (length u.additions) < 2 ^ 63 → All (IsPlaceBelow (suc (length u.additions))) ps
-    → FitsGivenUnit (record { address_size = u.address_size; lines = u.lines; places = ps; additions = u.additions ++ e ∷ [] })
+    → FitsGivenUnit (record { version = u.version; address_size = u.address_size; lines = u.lines; places = ps; additions = u.additions ++ e ∷ [] })
 child-kept u e ps fits low small none few known =
     let longer : length (u.additions ++ e ∷ []) ≡ suc (length u.additions) = omega (arith, length-append u.additions (e ∷ [])) in
     record {
+      version = fits.version;
       size = fits.size;
       lines = fits.lines;
       rooted = rooted-push u.additions e fits.rooted low;
@@ -146,24 +148,24 @@ place-set (suc id) zero place n (p ∷ ps) is none = is
 place-set (suc id) (suc other) place n (p ∷ ps) is none = place-set id other place n ps is none
 
 pub child-next : (u : GivenUnit) (parent place tag : ℕ) → place_of parent u.places ≡ Some place
-    → with_child parent tag (with_next u) ≡ record { address_size = u.address_size; lines = u.lines; places = u.places ++ Some (length u.additions) ∷ []; additions = u.additions ++ record { parent = place; tag = tag; attributes = [] } ∷ [] }
+    → with_child parent tag (with_next u) ≡ record { version = u.version; address_size = u.address_size; lines = u.lines; places = u.places ++ Some (length u.additions) ∷ []; additions = u.additions ++ record { parent = place; tag = tag; attributes = [] } ∷ [] }
 child-next u parent place tag is = let there = place-append parent place u.places (Some (length u.additions) ∷ []) is in rw (there, with_child) refl
 
 pub child-known : (u : GivenUnit) (id parent place tag : ℕ) → place_of parent u.places ≡ Some place → place_of id u.places ≡ None
-    → with_child parent tag (with_known id u) ≡ record { address_size = u.address_size; lines = u.lines; places = slice_set u.places id (Some (length u.additions)); additions = u.additions ++ record { parent = place; tag = tag; attributes = [] } ∷ [] }
+    → with_child parent tag (with_known id u) ≡ record { version = u.version; address_size = u.address_size; lines = u.lines; places = slice_set u.places id (Some (length u.additions)); additions = u.additions ++ record { parent = place; tag = tag; attributes = [] } ∷ [] }
 child-known u id parent place tag is none = let there = place-set parent id place (length u.additions) u.places is none in rw (there, with_child) refl
 
 -- A unit to which an entry was added is the one that is said, and as it is to be.
 pub record IsAddedTo (u said : GivenUnit) (places : List (Option ℕ)) (additions : List Addition) : Type 0 where
-  pub kept : FitsGivenUnit (record { address_size = u.address_size; lines = u.lines; places = places; additions = additions })
-  pub is : record { address_size = u.address_size; lines = u.lines; places = places; additions = additions } ≡ said
+  pub kept : FitsGivenUnit (record { version = u.version; address_size = u.address_size; lines = u.lines; places = places; additions = additions })
+  pub is : record { version = u.version; address_size = u.address_size; lines = u.lines; places = places; additions = additions } ≡ said
 
 pub added-next : (u : GivenUnit) (parent place tag n : ℕ) (places : List (Option ℕ)) (additions : List Addition) → FitsGivenUnit u → place_of parent u.places ≡ Some place → tag ≤ 65535 → n ≡ length u.additions → suc n < 2 ^ 63
     → additions ≡ u.additions ++ record { parent = place; tag = tag; attributes = [] } ∷ [] → places ≡ u.places ++ Some n ∷ [] → IsAddedTo u (with_child parent tag (with_next u)) places additions
 added-next u parent place tag n places additions fits is small long few pushed numbered =
     let e : Addition = record { parent = place; tag = tag; attributes = [] } in
     let placed : places ≡ u.places ++ Some (length u.additions) ∷ [] = numbered ∙ ap (λ k. u.places ++ Some k ∷ []) long in
-    let P : List (Option ℕ) → List Addition → GivenUnit = λ ps es. record { address_size = u.address_size; lines = u.lines; places = ps; additions = es } in
+    let P : List (Option ℕ) → List Addition → GivenUnit = λ ps es. record { version = u.version; address_size = u.address_size; lines = u.lines; places = ps; additions = es } in
     let same : P places additions ≡ P (u.places ++ Some (length u.additions) ∷ []) (u.additions ++ e ∷ []) = ap (λ ps. P ps additions) placed ∙ ap (P (u.places ++ Some (length u.additions) ∷ [])) pushed in
     record {
       kept = subst FitsGivenUnit (sym same) (child-kept u e (u.places ++ Some (length u.additions) ∷ []) fits (place-below (length u.additions) parent place u.places fits.known is) small refl (omega (arith, long, few)) (next-known (length u.additions) u.places fits.known));
@@ -175,7 +177,7 @@ pub added-known : (u : GivenUnit) (id parent place tag n : ℕ) (places : List (
 added-known u id parent place tag n places additions fits is none small long few pushed numbered =
     let e : Addition = record { parent = place; tag = tag; attributes = [] } in
     let placed : places ≡ slice_set u.places id (Some (length u.additions)) = numbered ∙ ap (λ k. slice_set u.places id (Some k)) long in
-    let P : List (Option ℕ) → List Addition → GivenUnit = λ ps es. record { address_size = u.address_size; lines = u.lines; places = ps; additions = es } in
+    let P : List (Option ℕ) → List Addition → GivenUnit = λ ps es. record { version = u.version; address_size = u.address_size; lines = u.lines; places = ps; additions = es } in
     let same : P places additions ≡ P (slice_set u.places id (Some (length u.additions))) (u.additions ++ e ∷ []) = ap (λ ps. P ps additions) placed ∙ ap (P (slice_set u.places id (Some (length u.additions)))) pushed in
     record {
       kept = subst FitsGivenUnit (sym same) (child-kept u e (slice_set u.places id (Some (length u.additions))) fits (place-below (length u.additions) parent place u.places fits.known is) small refl (omega (arith, long, few)) (set-known (length u.additions) id u.places fits.known));

@@ -3,9 +3,10 @@ use Rattle.std.specs.Prelude.{◌≡◌, ℕ, zero, suc, ◌^◌, ◌<◌, ◌�
 use Rattle.std.specs.List.{All, flat_map}
 use Rattle.std.specs.Int.{w64, cast_signed}
 use Rattle.dwc_base.specs.declared.constants.TheConstants.{DW_TAG_compile_unit, DW_AT_stmt_list, DW_FORM_data1, DW_FORM_data2, DW_FORM_data4, DW_FORM_data8, DW_FORM_sdata, DW_FORM_udata, DW_FORM_implicit_const}
-use Rattle.dwc_base.specs.declared.section_name.SectionName.TheVariants.{Line, Loc, Ranges}
+use Rattle.dwc_base.specs.declared.section_name.SectionName.TheVariants.{Line}
 use Rattle.dwc_base.specs.Abbreviations.{AttributeSpec, Declaration}
 use Rattle.dwc_dwarf.specs.Values.{is_expression_name, is_location_name, is_range_name}
+use Rattle.dwc_output.specs.FieldKinds.{section_of_ranges, section_of_locations}
 use Rattle.dwc_unit.specs.declared.attributes.Attribute.{Attribute}
 use Rattle.dwc_unit.specs.declared.attributes.AttributeForm.{AttributeForm}
 use Rattle.dwc_unit.specs.declared.attributes.AttributeValue.{AttributeValue}
@@ -26,9 +27,10 @@ pub record Addition : Type 0 where
   pub tag : ℕ
   pub attributes : List Attribute
 
--- a unit: the size of its addresses, its line program, its entries in the order of addition, the root first, and for each number
--- that was given to an entry the entry's place there, none where the number is only reserved
+-- a unit: its version, the size of its addresses, its line program, its entries in the order of addition, the root first, and for each
+-- number that was given to an entry the entry's place there, none where the number is only reserved
 pub record GivenUnit : Type 0 where
+  pub version : ℕ
   pub address_size : ℕ
   pub lines : GivenLines
   pub places : List (Option ℕ)
@@ -43,6 +45,7 @@ pub record GivenEntry : Type 0 where
 
 -- a unit with its entries in file order
 pub record OrderedUnit : Type 0 where
+  pub version : ℕ
   pub address_size : ℕ
   pub lines : GivenLines
   pub places : List (Option ℕ)
@@ -66,7 +69,7 @@ in_file_order [] = []
 in_file_order (root ∷ es) = entry_at 0 0 root ∷ below 1 0 1 es
 
 abbrev pub ordered : GivenUnit → OrderedUnit
-ordered u = record { address_size = u.address_size; lines = u.lines; places = u.places; entries = in_file_order u.additions }
+ordered u = record { version = u.version; address_size = u.address_size; lines = u.lines; places = u.places; entries = in_file_order u.additions }
 
 -- ---- values
 
@@ -79,10 +82,11 @@ constant_of form bits =
     else (if form == DW_FORM_data8 then as_data8 bits
     else (if form == DW_FORM_sdata then as_sdata (cast_signed w64 bits) else as_udata bits))))
 
--- Where what a unit names by an offset stands: its line table, its own entries, from the unit's first byte, the entries of the
+-- The version of a unit, by which its lists have a section, and where what it names by an offset stands: its line table, its own entries, from the unit's first byte, the entries of the
 -- unit of a number, from the first byte of `.debug_info`, and texts, in `.debug_str`; entries and texts by their numbers. (DWARF 4,
 -- section 7.5.4.)
 pub record Places : Type 0 where
+  pub version : ℕ
   pub line : ℕ
   pub entry : ℕ → ℕ
   pub entry_of : ℕ → ℕ → ℕ
@@ -90,7 +94,7 @@ pub record Places : Type 0 where
 
 -- nothing has a place yet: forms and sizes do not hang on places
 abbrev pub no_places : Places
-no_places = record { line = 0; entry = λ id. 0; entry_of = λ unit id. 0; text = λ id. 0 }
+no_places = record { version = 4; line = 0; entry = λ id. 0; entry_of = λ unit id. 0; text = λ id. 0 }
 
 -- a value in a unit with some places, where the next lists stand at others
 abbrev pub written_of : Places → ListPlaces → AttributeValue → Written
@@ -101,8 +105,8 @@ written_of places lists (Block bytes) = as_block bytes.items
 written_of places lists (Exprloc e) = as_exprloc e
 written_of places lists (StringRef id) = as_strp (places.text id.index)
 written_of places lists LineProgramRef = as_sec_offset Line places.line
-written_of places lists (RangeListRef list) = as_sec_offset Ranges lists.ranges
-written_of places lists (LocationListRef list) = as_sec_offset Loc lists.locations
+written_of places lists (RangeListRef list) = as_sec_offset (section_of_ranges places.version) lists.ranges
+written_of places lists (LocationListRef list) = as_sec_offset (section_of_locations places.version) lists.locations
 written_of places lists (UnitRef id) = as_ref4 (places.entry id.index)
 written_of places lists (DebugInfoRef (Entry unit id)) = as_ref_addr (places.entry_of unit.index id.index)
 
@@ -146,8 +150,8 @@ pub record FitsAttribute (size : ℕ) (a : Attribute) : Type 0 where
 -- ---- what the calls do
 
 -- a new unit: a compile unit as root, and no other entries
-abbrev pub new_unit : ℕ → GivenLines → GivenUnit
-new_unit size lines = record { address_size = size; lines = lines; places = Some 0 ∷ []; additions = record { parent = 0; tag = DW_TAG_compile_unit; attributes = [] } ∷ [] }
+abbrev pub new_unit : ℕ → ℕ → GivenLines → GivenUnit
+new_unit version size lines = record { version = version; address_size = size; lines = lines; places = Some 0 ∷ []; additions = record { parent = 0; tag = DW_TAG_compile_unit; attributes = [] } ∷ [] }
 
 -- a value under a name: in the place of the first of that name, else behind the others
 abbrev pub set_attribute : ℕ → AttributeValue → List Attribute → List Attribute
@@ -182,10 +186,10 @@ abbrev pub IsReserved : ℕ → GivenUnit → Type 0
 IsReserved id u = (id < length u.places) × (place_of id u.places ≡ None)
 
 abbrev pub with_additions : List Addition → GivenUnit → GivenUnit
-with_additions es u = record { address_size = u.address_size; lines = u.lines; places = u.places; additions = es }
+with_additions es u = record { version = u.version; address_size = u.address_size; lines = u.lines; places = u.places; additions = es }
 
 abbrev pub with_places : List (Option ℕ) → GivenUnit → GivenUnit
-with_places ps u = record { address_size = u.address_size; lines = u.lines; places = ps; additions = u.additions }
+with_places ps u = record { version = u.version; address_size = u.address_size; lines = u.lines; places = ps; additions = u.additions }
 
 -- the tag of the entry of a number
 abbrev pub tag_of : ℕ → GivenUnit → ℕ
@@ -235,12 +239,17 @@ abbrev pub IsPlaceBelow : ℕ → Option ℕ → Type 0
 IsPlaceBelow n None = Unit {0}
 IsPlaceBelow n (Some place) = place < n
 
+-- the versions of units that are written
+abbrev pub IsWrittenVersion : ℕ → Type 0
+IsWrittenVersion version = (version ≡ 4) ⊎ (version ≡ 5)
+
 -- the address size of a unit's line program, where it has one
 abbrev pub IsOfSize : ℕ → Option ℕ → Type 0
 IsOfSize size None = Unit {0}
 IsOfSize size (Some n) = n ≡ size
 
 pub record FitsGivenUnit (u : GivenUnit) : Type 0 where
+  pub version : IsWrittenVersion u.version
   pub size : (u.address_size ≡ 4) ⊎ (u.address_size ≡ 8)
   pub lines : IsOfSize u.address_size u.lines.address_size
   pub rooted : IsRooted u.additions
@@ -262,6 +271,7 @@ pub record FitsEntry (size : ℕ) (e : GivenEntry) : Type 0 where
   pub attributes : All (FitsAttribute size) e.attributes
 
 pub record FitsOrdered (u : OrderedUnit) : Type 0 where
+  pub version : IsWrittenVersion u.version
   pub size : (u.address_size ≡ 4) ⊎ (u.address_size ≡ 8)
   pub lines : IsOfSize u.address_size u.lines.address_size
   pub tree : IsTree u.entries
@@ -283,8 +293,9 @@ abbrev pub names_lines : List GivenEntry → Bool
 names_lines [] = false
 names_lines (e ∷ es) = names_lines_in e.attributes
 
--- A unit is of the size of all, its sequences are ended, and its root names a line table exactly where it has one.
-pub record IsWritable (shared : ℕ) (u : OrderedUnit) : Type 0 where
+-- A unit is of the version and of the size of all, its sequences are ended, and its root names a line table exactly where it has one.
+pub record IsWritable (shared_version shared : ℕ) (u : OrderedUnit) : Type 0 where
+  pub version : u.version ≡ shared_version
   pub size : u.address_size ≡ shared
   pub ended : u.lines.begun ≡ None
   pub named : names_lines u.entries ≡ is_some u.lines.address_size
@@ -293,8 +304,12 @@ abbrev pub size_of : List OrderedUnit → ℕ
 size_of [] = 8
 size_of (u ∷ us) = u.address_size
 
+abbrev pub version_of : List OrderedUnit → ℕ
+version_of [] = 4
+version_of (u ∷ us) = u.version
+
 abbrev pub AreWritable : List OrderedUnit → Type 0
-AreWritable us = All (IsWritable (size_of us)) us
+AreWritable us = All (IsWritable (version_of us) (size_of us)) us
 
 -- ---- the shapes of entries, and their codes
 
@@ -400,16 +415,16 @@ abbrev pub lists_of_entries : (AttributeValue → List ListEntry) → List Given
 lists_of_entries lists es = flat_map (λ e. lists_of_attributes lists e.attributes) es
 
 -- where the next lists stand behind those of entries
-abbrev pub behind_entries : ℕ → ListPlaces → List GivenEntry → ListPlaces
-behind_entries size places [] = places
-behind_entries size places (e ∷ es) = behind_entries size (behind_attributes size places e.attributes) es
+abbrev pub behind_entries : ℕ → ℕ → ListPlaces → List GivenEntry → ListPlaces
+behind_entries version size places [] = places
+behind_entries version size places (e ∷ es) = behind_entries version size (behind_attributes version size places e.attributes) es
 
 abbrev pub lists_of_units : (AttributeValue → List ListEntry) → List OrderedUnit → List ListEntry
 lists_of_units lists us = flat_map (λ u. lists_of_entries lists u.entries) us
 
--- The expressions of the location lists of entries, and of units, are short.
-abbrev pub HaveShortLists : List GivenEntry → Type 0
-HaveShortLists es = All (λ e. IsShort e.holds) (lists_of_entries locations_in es)
+-- The expressions of the location lists of entries, and of units, are short enough for their version.
+abbrev pub HaveShortLists : ℕ → List GivenEntry → Type 0
+HaveShortLists version es = All (λ e. IsShort version e.holds) (lists_of_entries locations_in es)
 
 abbrev pub AreShortUnits : List OrderedUnit → Type 0
-AreShortUnits us = All (λ u. HaveShortLists u.entries) us
+AreShortUnits us = All (λ u. HaveShortLists u.version u.entries) us

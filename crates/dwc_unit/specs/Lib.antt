@@ -18,8 +18,9 @@ pub mod AttributePlaces
 pub mod FileOrders
 pub mod SmallGiven
 pub mod SmallPlaces
-pub mod WidestGiven
 pub mod GivenTrees
+pub mod LineNames
+pub mod WidestGiven
 pub mod LentUnits
 pub mod AddedInOrder
 pub mod Renumbered

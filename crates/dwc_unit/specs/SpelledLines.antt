@@ -178,8 +178,9 @@ sequence_instructions q = set_address q.start_address ∷ rows_instructions firs
 abbrev pub sequences_instructions : List WrittenSequence → List Instruction
 sequences_instructions qs = flat_map sequence_instructions qs
 
--- a row's numbers fit
+-- A row's numbers fit, and its file has one, from 1 on.
 pub record FitsRow (r : LineRow) : Type 0 where
+  pub some_file : 0 < r.file
   pub offset : r.offset < 2 ^ 32
   pub line : r.line < 2 ^ 32
   pub file : r.file < 2 ^ 64

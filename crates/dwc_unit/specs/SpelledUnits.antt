@@ -1,17 +1,19 @@
--- The bytes of a unit of version 4, from its entries in file order, and what its readers answer on them. The laws are in
+-- The bytes of a unit of version 4 or 5, from its entries in file order, and what its readers answer on them. The laws are in
 -- `ReadValues` (values, form by form) and `ReadEntries` (header and entries).
-use Rattle.std.specs.Prelude.{◌≡◌, ℕ, suc, ◌+◌, ◌-◌, ◌^◌, ◌<◌, ◌≤◌, ℤ, pos, List, [], ◌∷◌, ◌++◌, map, length, replicate, Bool, true, nat_lt, Some, None}
+use Rattle.std.specs.Prelude.{◌≡◌, ℕ, suc, ◌+◌, ◌-◌, ◌^◌, ◌<◌, ◌≤◌, ℤ, pos, List, [], ◌∷◌, ◌++◌, map, length, replicate, Bool, true, nat_lt, if◌then◌else◌, Some, None}
 use Rattle.std.specs.List.{All, flat_map}
 use Rattle.std.specs.Int.{w64, cast_unsigned}
 use Rattle.dwc_base.specs.declared.records.Endian.{Endian}
 use Rattle.dwc_base.specs.declared.records.Address.{Address}
 use Rattle.dwc_base.specs.declared.section_name.SectionName.{SectionName}
+use Rattle.dwc_base.specs.declared.constants.TheConstants.{DW_UT_compile}
 use Rattle.dwc_base.specs.Reading.{is_64_bit}
 use Rattle.dwc_base.specs.Abbreviations.{AttributeSpec, Declaration, declaration_of}
 use Rattle.dwc_base.specs.Units.{UnitHeader}
 use Rattle.dwc_dwarf.specs.Values.{Value, address, constant, flag, expression, text_reference, unit_reference, info_reference, section_offset, block_value}
 use Rattle.dwc_dwarf.specs.Entries.{Entry}
 use Rattle.dwc_base.specs.Spelling.{unread_at}
+use Rattle.dwc_output.specs.Versions.{is_old}
 use Rattle.dwc_base.specs.NumberBytes.{number_bytes, uleb_bytes, sleb_bytes}
 use Rattle.dwc_section.specs.Spelled.{block_bytes, sized_bytes, at_places}
 use Rattle.dwc_unit.specs.SpelledTables.{flag_of}
@@ -85,7 +87,7 @@ FitsWritten size (as_ref4 n) = n < 256 ^ 4
 FitsWritten size (as_ref_addr n) = n < 256 ^ 4
 FitsWritten size (as_sec_offset section n) = n < 256 ^ 4
 
--- the value that a reader of version 4 finds under a name
+-- the value that a reader finds under a name
 abbrev pub written_value : ℕ → Written → Value
 written_value name (as_addr a) = address a
 written_value name (as_data1 n) = constant 0x0B n
@@ -185,26 +187,37 @@ pub record FitsEntry (table : List Declaration) (size : ℕ) (x : Shaped) : Type
 
 -- ---- the unit
 
--- version, offset of the table, address size, entries
-abbrev pub unit_body : Endian → ℕ → ℕ → List WrittenEntry → List ℕ
-unit_body order size table_offset es = number_bytes order 2 4 ++ (number_bytes order 4 table_offset ++ ((size ∷ []) ++ entries_bytes order size es))
+-- what stands behind the version: up to version 4 the offset of the table and the address size, from version 5 on the type of a compile unit, the
+-- address size and the offset (DWARF 4 and 5, section 7.5.1.1); then the entries
+abbrev pub behind_version : ℕ → Endian → ℕ → ℕ → List WrittenEntry → List ℕ
+behind_version version order size table_offset es =
+    if is_old version
+    then number_bytes order 4 table_offset ++ ((size ∷ []) ++ entries_bytes order size es)
+    else (DW_UT_compile ∷ size ∷ []) ++ (number_bytes order 4 table_offset ++ entries_bytes order size es)
 
-abbrev pub unit_bytes : Endian → ℕ → ℕ → List WrittenEntry → List ℕ
-unit_bytes order size table_offset es = sized_bytes order (unit_body order size table_offset es)
+abbrev pub unit_body : ℕ → Endian → ℕ → ℕ → List WrittenEntry → List ℕ
+unit_body version order size table_offset es = number_bytes order 2 version ++ behind_version version order size table_offset es
+
+abbrev pub unit_bytes : ℕ → Endian → ℕ → ℕ → List WrittenEntry → List ℕ
+unit_bytes version order size table_offset es = sized_bytes order (unit_body version order size table_offset es)
 
 -- how many bytes stand before the entries
-abbrev pub header_length : ℕ
-header_length = 11
+abbrev pub header_length : ℕ → ℕ
+header_length version = if is_old version then 11 else 12
+
+-- where the offset of the table stands in a unit
+abbrev pub table_place : ℕ → ℕ
+table_place version = if is_old version then 6 else 8
 
 -- the header that is read at a place
-abbrev pub read_header : Endian → ℕ → ℕ → ℕ → List WrittenEntry → UnitHeader
-read_header order size table_offset place es = record {
+abbrev pub read_header : ℕ → Endian → ℕ → ℕ → ℕ → List WrittenEntry → UnitHeader
+read_header version order size table_offset place es = record {
   offset = place;
-  end = place + length (unit_bytes order size table_offset es);
-  version = 4;
+  end = place + length (unit_bytes version order size table_offset es);
+  version = version;
   address_size = size;
-  unit_type = 1;
+  unit_type = DW_UT_compile;
   abbreviations = table_offset;
   dwo_id = None;
-  content = unread_at order (place + header_length) (entries_bytes order size es);
+  content = unread_at order (place + header_length version) (entries_bytes order size es);
 }

@@ -75,7 +75,7 @@ impl LineProgram {
         }
     }
 
-    /// An empty line program for a unit of version 4 and this encoding.
+    /// An empty line program for a unit of this encoding, of version 4 or 5.
     pub fn new(alloc: Global, encoding: Encoding) -> Result<LineProgram, WriteError>
         ensures { OkUnlessMemory result (λ p. p ≡ no_lines (Some encoding.address_size)) }
     {

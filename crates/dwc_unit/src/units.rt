@@ -1,6 +1,6 @@
 //! Units as they are given: a line program and a tree of entries. (DWARF 4, section 7.5.)
 ghost use Rattle.std.specs.Prelude.{◌≡◌, ◌⊎◌, ◌<◌, ◌∷◌, ◌++◌, [], Some, true, is_some, OnOk, OnErr, IfOk, IsOkUnless, length, slice_index_or};
-ghost use Rattle.dwc_unit.specs.GivenUnits.{IsOfSize, new_unit, place_of};
+ghost use Rattle.dwc_unit.specs.GivenUnits.{IsOfSize, IsWrittenVersion, new_unit, place_of};
 ghost use Rattle.dwc_section.specs.declared.error.WriteError.TheVariants.{OutOfMemory};
 ghost use Rattle.dwc_section.specs.Writers.{OkUnlessMemory};
 
@@ -26,6 +26,8 @@ pub struct UnitEntryId {
 /// number that was given to an entry the entry's place there, none where the number is only reserved.
 #[derive(Drop)]
 pub struct Unit {
+    /// Its version, 4 or 5.
+    pub version: u16,
     /// The size of an address in bytes, 4 or 8.
     pub address_size: u8,
     /// Its line program, which other units may share.
@@ -41,33 +43,47 @@ impl Model for Unit {
 
     ghost Value = { GivenUnit };
 
-    ghost view = { λ u. record { address_size = u.address_size; lines = u.lines.value; places = u.places.items; additions = u.additions } };
+    ghost view = { λ u. record { version = u.version; address_size = u.address_size; lines = u.lines.value; places = u.places.items; additions = u.additions } };
 
-    ghost invariant = { λ u. FitsGivenUnit (record { address_size = u.address_size; lines = u.lines.value; places = u.places.items; additions = u.additions }) };
+    ghost invariant = { λ u. FitsGivenUnit (record { version = u.version; address_size = u.address_size; lines = u.lines.value; places = u.places.items; additions = u.additions }) };
 }
 
 impl Unit {
     ghost use Rattle.std.specs.Prelude.{◌≡◌, ◌⊎◌, OnOk, OnErr, IfOk, IsOkUnless, length};
-    ghost use Rattle.dwc_unit.specs.GivenUnits.{FitsValue, IsAdded, IsOfSize, IsReserved, new_unit, tag_of, with_child, with_known, with_next, with_reserved, with_value};
+    ghost use Rattle.dwc_unit.specs.GivenUnits.{FitsValue, IsAdded, IsOfSize, IsReserved, IsWrittenVersion, new_unit, tag_of, with_child, with_known, with_next, with_reserved, with_value};
 
-    /// A unit of version 4 with a line program of the same encoding, or with none. Its root is a compile unit.
+    /// A unit of version 4 or 5 with a line program of the same encoding, or with none. Its root is a compile unit.
     pub fn new(alloc: Global, encoding: Encoding, program: LineProgram) -> Result<Unit, WriteError>
-        requires version { encoding.version ≡ 4 }
+        requires version { IsWrittenVersion encoding.version }
         requires size { (encoding.address_size ≡ 4) ⊎ (encoding.address_size ≡ 8) }
         requires lines { IsOfSize encoding.address_size program.address_size }
-        ensures { OkUnlessMemory result (λ u. u ≡ new_unit encoding.address_size program) }
+        ensures { OkUnlessMemory result (λ u. u ≡ new_unit encoding.version encoding.address_size program) }
     {
         let lines = Rc::new(alloc, program)?;
-        with_root(alloc, encoding.address_size, lines)
+        with_root(alloc, encoding, lines)
     }
 
-    /// A unit of version 4 with the address size and the line program of another, which both share from then on. Its root is a
+    /// A unit with the version, the address size and the line program of another, which both share from then on. Its root is a
     /// compile unit.
     pub fn sharing(alloc: Global, other: &Unit) -> Result<Unit, WriteError>
-        ensures { OkUnlessMemory result (λ u. u ≡ new_unit other.now.address_size other.now.lines) }
+        ensures { OkUnlessMemory result (λ u. u ≡ new_unit other.now.version other.now.address_size other.now.lines) }
     {
         let lines = other.lines.clone()?;
-        with_root(alloc, other.address_size, lines)
+        with_root(alloc, other.encoding(), lines)
+    }
+
+    /// Its version and the size of its addresses.
+    pub fn encoding(&self) -> Encoding
+        ensures version { result.version ≡ self.now.version }
+        ensures address_size { result.address_size ≡ self.now.address_size }
+        ensures known { IsWrittenVersion self.now.version }
+        ensures sized { (self.now.address_size ≡ 4) ⊎ (self.now.address_size ≡ 8) }
+        ensures lines { IsOfSize self.now.address_size self.now.lines.address_size }
+    {
+        Encoding {
+            version: self.version,
+            address_size: self.address_size,
+        }
     }
 
     /// The root.
@@ -188,17 +204,19 @@ impl Unit {
 }
 
 // A unit with a root alone.
-fn with_root(alloc: Global, address_size: u8, lines: Rc<LineProgram>) -> Result<Unit, WriteError>
-    requires size { (address_size ≡ 4) ⊎ (address_size ≡ 8) }
-    requires lines { IsOfSize address_size lines.value.address_size }
-    ensures { OkUnlessMemory result (λ u. u ≡ new_unit address_size lines.value) }
+fn with_root(alloc: Global, encoding: Encoding, lines: Rc<LineProgram>) -> Result<Unit, WriteError>
+    requires version { IsWrittenVersion encoding.version }
+    requires size { (encoding.address_size ≡ 4) ⊎ (encoding.address_size ≡ 8) }
+    requires lines { IsOfSize encoding.address_size lines.value.address_size }
+    ensures { OkUnlessMemory result (λ u. u ≡ new_unit encoding.version encoding.address_size lines.value) }
 {
     let mut additions = Additions::new(alloc);
     additions.push(0, DW_TAG_compile_unit)?;
     let mut places = Vec::new(alloc);
     places.push(SmallPlace::new(0)?)?;
     Ok(Unit {
-        address_size,
+        version: encoding.version,
+        address_size: encoding.address_size,
         lines,
         places,
         additions,

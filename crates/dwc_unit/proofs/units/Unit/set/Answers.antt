@@ -24,6 +24,6 @@ invariant_of-self-2 c =
 pub returns-clause-ok : goal.returns-clause-ok
 returns-clause-ok c =
     let place = rw (c.deref.ensures.value) at c.known_place-place.ensures in
-    let given : GivenUnit = record { address_size = c.self.inside.address_size; lines = c.self.inside.lines.value; places = c.self.inside.places.items; additions = c.self.inside.additions } in
+    let given : GivenUnit = record { version = c.self.inside.version; address_size = c.self.inside.address_size; lines = c.self.inside.lines.value; places = c.self.inside.places.items; additions = c.self.inside.additions } in
     ap (λ es. with_additions es given) c.in_ok-set.ensures.ok
     ∙ sym (value-placed given c.args.id.index c.known_place-place.result c.args.name c.args.value place) ∙ ap (with_value c.args.id.index c.args.name c.args.value) c.self.view_is
