@@ -39,22 +39,24 @@ KeepsPlaces old new = (id place : ℕ) → place_of id old ≡ Some place → pl
 pub record Extends (from : ℕ) (before behind : List ℕ) (u v : GivenUnit) : Type 0 where
   pub places : KeepsPlaces u.places v.places
   pub last : (depth place : ℕ) → depth < from → IsLastOf before depth place → IsLastOf behind depth place
+  pub version : v.version ≡ u.version
   pub size : v.address_size ≡ u.address_size
   pub lines : v.lines ≡ u.lines
 
 pub extends-not : (from : ℕ) (ds : List ℕ) (u : GivenUnit) → Extends from ds ds u u
-extends-not from ds u = record { places = λ id place is. is; last = λ depth place above last. last; size = refl; lines = refl }
+extends-not from ds u = record { places = λ id place is. is; last = λ depth place above last. last; version = refl; size = refl; lines = refl }
 
 pub extends-on : (from : ℕ) (ds es fs : List ℕ) (u v w : GivenUnit) → Extends from ds es u v → Extends from es fs v w → Extends from ds fs u w
 extends-on from ds es fs u v w first second = record {
   places = λ id place is. second.places id place (first.places id place is);
   last = λ depth place above last. second.last depth place above (first.last depth place above last);
+  version = second.version ∙ first.version;
   size = second.size ∙ first.size;
   lines = second.lines ∙ first.lines;
 }
 
 pub extends-less : (from to : ℕ) (ds es : List ℕ) (u v : GivenUnit) → to ≤ from → Extends from ds es u v → Extends to ds es u v
-extends-less from to ds es u v less e = record { places = e.places; last = λ depth place above last. e.last depth place (omega (arith, above, less)) last; size = e.size; lines = e.lines }
+extends-less from to ds es u v less e = record { places = e.places; last = λ depth place above last. e.last depth place (omega (arith, above, less)) last; version = e.version; size = e.size; lines = e.lines }
 
 pub last-extended : (from : ℕ) (ds es : List ℕ) (u v : GivenUnit) → Extends from ds es u v → (depth : ℕ) (id : UnitEntryId) → depth < from → IsLastAt ds depth u id → IsLastAt es depth v id
 last-extended from ds es u v e depth id above last = record { place = last.place; at = e.places id.index last.place last.at; last = e.last depth last.place above last.last }
@@ -146,6 +148,7 @@ module _ (goals : Goal → Option (ℕ × ℕ)) (number : ℕ) (old new : List (
     extended = record {
       places = f.kept;
       last = λ depth place above last. subst (λ xs. IsLastOf xs depth place) (sym (depths-more d)) (last-before depths d.depth depth place last above);
+      version = refl;
       size = refl;
       lines = refl;
     }

@@ -95,16 +95,16 @@ module _ (registers : Registers) (c : CloneSource) (number : ℕ) (s : UnitSourc
 
   -- ---- the root
 
-  pub root-drafted : (old new : List (List ℕ)) (size : ℕ) (lines : GivenLines) (places : List (Option ℕ)) (v : GivenUnit) → p.entry.depth ≡ 0 → place_of 0 places ≡ Some 0 → All (IsPlaceBelow 1) places → output.place_of c.places.now p.entry.offset ≡ Some (number, 0)
-      → IsGiven number old new (values_whole registers c s p at) (rootless size lines places) (bare 0 p.entry.tag) v
+  pub root-drafted : (old new : List (List ℕ)) (version size : ℕ) (lines : GivenLines) (places : List (Option ℕ)) (v : GivenUnit) → p.entry.depth ≡ 0 → place_of 0 places ≡ Some 0 → All (IsPlaceBelow 1) places → output.place_of c.places.now p.entry.offset ≡ Some (number, 0)
+      → IsGiven number old new (values_whole registers c s p at) (rootless version size lines places) (bare 0 p.entry.tag) v
       → IsDrafted at number new (told ∷ []) v × LastOf (told ∷ []) p.entry.depth v (record { index = 0 })
-  root-drafted old new size lines places v depth first below placed given = (
+  root-drafted old new version size lines places v depth first below placed given = (
     subst (IsDrafted at number new (told ∷ [])) (sym given.is) record {
       order = record { counted = refl; some = omega arith; root = depth; parents = λ place above within. absurd (omega (arith, above, within)) };
       leads = below;
       numbers = 0 ∷ [];
       numbered = record { counted = refl; places = λ place within. at_first place within; told = (placed, tt) };
-      says = ap (λ (x : TreeEntry). x ∷ []) (given-means old new (rootless size lines places) given.given 0 v given);
+      says = ap (λ (x : TreeEntry). x ∷ []) (given-means old new (rootless version size lines places) given.given 0 v given);
       names = All-cons (λ (a : Addition). All (λ n. n < length new) (texts_of_attributes a.attributes)) given.given [] given.texts (All-nil (λ (a : Addition). All (λ n. n < length new) (texts_of_attributes a.attributes)));
     },
     subst (λ w. LastOf (told ∷ []) p.entry.depth w (record { index = 0 })) (sym given.is) record {

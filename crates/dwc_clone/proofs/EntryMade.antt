@@ -152,7 +152,7 @@ module _ (registers : Registers) (c : CloneSource) (number : ℕ) (s : UnitSourc
   root-plain tag = ap (λ t. (t == DW_TAG_pointer_type) || (t == DW_TAG_reference_type)) tag
 
   root-built : (u v : GivenUnit) (new : List (List ℕ)) (path : List UnitEntryId) → all ≡ e ∷ others → e.depth ≡ 0 → e.tag ≡ DW_TAG_compile_unit → place_of 0 u.places ≡ Some 0 → All (IsPlaceBelow 1) u.places → output.place_of c.places.now e.offset ≡ Some (number, 0) → parents ≡ []
-      → IsItself at registers c number s p texts new parents path (record { id = record { index = 0 }; parent = record { index = 0 } }) (rootless begun.address_size begun.lines u.places) (bare 0 e.tag) v → Built new v path [] × Takes u v
+      → IsItself at registers c number s p texts new parents path (record { id = record { index = 0 }; parent = record { index = 0 } }) (rootless begun.version begun.address_size begun.lines u.places) (bare 0 e.tag) v → Built new v path [] × Takes u v
   root-built u v new path are depth tag first below placed_at no_parents itself =
       let own = told registers c number s source roles p in
       let middle = itself.middle in
@@ -161,7 +161,7 @@ module _ (registers : Registers) (c : CloneSource) (number : ℕ) (s : UnitSourc
       let same : v ≡ middle = subst (λ o. HasVariable o 0 c.vmctx_ptr new middle v) none itself.variable in
       let empty : context_entries cs p ≡ [] = ap (λ o. option_to_list (option_map (λ located. context_variable (suc e.depth) (context_pointer cs) (locations_or_none located)) o)) none in
       let whole : made_itself wrapping clone p ≡ own ∷ [] = plain-made plain ∙ ap (λ xs. own ∷ xs) empty in
-      let r = root-drafted registers c number s source roles p texts itself.texts begun.address_size begun.lines u.places middle depth first below placed_at itself.given in
+      let r = root-drafted registers c number s source roles p texts itself.texts begun.version begun.address_size begun.lines u.places middle depth first below placed_at itself.given in
       let drafted = drafted-texts at number itself.texts new itself.grows (own ∷ []) middle r.0 in
       let path_is : path ≡ record { index = 0 } ∷ [] = itself.path_is ∙ ap₂ (λ n (ps : List UnitEntryId). take n ps ++ record { index = 0 } ∷ []) depth no_parents in (
         subst (λ w. Built new w path []) (sym same) (subst (λ q. Built new middle q []) (sym path_is) record {
@@ -174,6 +174,7 @@ module _ (registers : Registers) (c : CloneSource) (number : ℕ) (s : UnitSourc
           whole = ap₂ (λ xs stack. xs ++ closing wrapping stack (entries_made wrapping clone (placed_in c.unit.now.header.offset others))) (sym whole) (sym (plain-open plain []))
               ∙ sym (made-next wrapping clone (entries-in_place cs s c.big_endian) [] p (placed_in c.unit.now.header.offset others))
               ∙ ap (clone_drafts registers c s) (sym are);
+          version = ap (λ (w : GivenUnit). w.version) (itself.given).is;
           size = ap (λ (w : GivenUnit). w.address_size) (itself.given).is;
           lines = ap (λ (w : GivenUnit). w.lines) (itself.given).is;
         }),
@@ -186,10 +187,10 @@ module _ (registers : Registers) (c : CloneSource) (number : ℕ) (s : UnitSourc
       record {
         bare_unit = u;
         placed = record { id = zero_id; parent = zero_id };
-        base = rootless begun.address_size begun.lines u.places;
+        base = rootless begun.version begun.address_size begun.lines u.places;
         added = bare 0 e.tag;
         adds = subst (λ o. AddsBelow o id e.tag u u (record { id = zero_id; parent = zero_id })) (sym (ap₂ last_parent depth is.parents_are)) (refl, refl);
-        last = record { number = is.first; is = is.root ∙ ap (λ t. with_last (bare 0 t) (rootless begun.address_size begun.lines u.places)) (sym tag); names = All-nil (λ n. n < length texts) };
+        last = record { number = is.first; is = is.root ∙ ap (λ t. with_last (bare 0 t) (rootless begun.version begun.address_size begun.lines u.places)) (sym tag); names = All-nil (λ n. n < length texts) };
         none = refl;
         makes = λ new path v itself.
             let both = root-built u v new path are depth tag is.first (subst (λ (w : GivenUnit). All (IsPlaceBelow (length w.additions)) u.places) is.root is.leads) placed_at is.parents_are itself in

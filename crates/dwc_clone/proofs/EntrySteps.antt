@@ -68,6 +68,7 @@ module _ (registers : Registers) (c : CloneSource) (number : ℕ) (s : UnitSourc
       pub opens : AreOpen c number roles ds u e.depth stack wrappers
       pub path : ArePath (draft_depths ds) 0 u (take e.depth parents)
       pub whole : ds ++ (made_itself wrapping clone p ++ behind stack) ≡ clone_drafts registers c s all
+      pub version : u.version ≡ begun.version
       pub size : u.address_size ≡ begun.address_size
       pub lines : u.lines ≡ begun.lines
 
@@ -85,6 +86,7 @@ module _ (registers : Registers) (c : CloneSource) (number : ℕ) (s : UnitSourc
           whole = append_assoc built.ds types (made_itself wrapping clone p ++ behind (left_open e.depth built.stack))
               ∙ ap (λ xs. built.ds ++ xs) (sym (made-next wrapping clone (entries-in_place cs s c.big_endian) built.stack p (placed others)))
               ∙ built.whole;
+          version = ((closed.adds).extends).version ∙ built.version;
           size = ((closed.adds).extends).size ∙ built.size;
           lines = ((closed.adds).extends).lines ∙ built.lines;
         }
@@ -109,6 +111,7 @@ module _ (registers : Registers) (c : CloneSource) (number : ℕ) (s : UnitSourc
               (subst (λ n. IsLastAt (draft_depths (r.ds ++ made_itself wrapping clone p)) n v id) (sym (omega (arith, length-take-le e.depth parents fits))) last);
           some = omega (arith, long);
           whole = append_assoc r.ds (made_itself wrapping clone p) (behind r.stack) ∙ r.whole;
+          version = (adds.extends).version ∙ r.version;
           size = (adds.extends).size ∙ r.size;
           lines = (adds.extends).lines ∙ r.lines;
         }

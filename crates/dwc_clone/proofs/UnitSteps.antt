@@ -75,10 +75,10 @@ gone-not old new e b next is = (subst (λ x. GoesOn old new e (Ok x)) is next).0
 -- ---- the unit before the first entry
 
 -- numbers that are reserved in a unit
-module _ (size : ℕ) (lines : GivenLines) where
+module _ (version size : ℕ) (lines : GivenLines) where
   -- whatever numbers are reserved, the root is alone and has the first one
   pub record IsAlone (u : GivenUnit) : Type 0 where
-    pub root : u ≡ with_last (record { parent = 0; tag = DW_TAG_compile_unit; attributes = [] }) (rootless size lines u.places)
+    pub root : u ≡ with_last (record { parent = 0; tag = DW_TAG_compile_unit; attributes = [] }) (rootless version size lines u.places)
     pub first : place_of 0 u.places ≡ Some 0
     pub leads : LeadsToEntries u
 
@@ -86,8 +86,8 @@ module _ (size : ℕ) (lines : GivenLines) where
   alone-more zero u is = is
   alone-more (suc n) u is = alone-more n (with_reserved u) (record { root = ap with_reserved is.root; first = reserved-place u 0 ∙ is.first; leads = leads-reserved u is.leads })
 
-  pub alone : (n : ℕ) → IsAlone (reserved_more n (new_unit size lines))
-  alone n = alone-more n (new_unit size lines) (record { root = refl; first = refl; leads = All-cons (IsPlaceBelow 1) (Some 0) [] (omega arith) (All-nil (IsPlaceBelow 1)) })
+  pub alone : (n : ℕ) → IsAlone (reserved_more n (new_unit version size lines))
+  alone n = alone-more n (new_unit version size lines) (record { root = refl; first = refl; leads = All-cons (IsPlaceBelow 1) (Some 0) [] (omega arith) (All-nil (IsPlaceBelow 1)) })
 
 count-more : (n : ℕ) (u : GivenUnit) → length (reserved_more n u).places ≡ length u.places + n
 count-more zero u = omega arith
@@ -125,7 +125,7 @@ pub record AreAmong (registers : Registers) (c : CloneSource) (number : ℕ) (s 
   pub whole : es ++ left ≡ all
 
 pub among-start : (registers : Registers) (c : CloneSource) (number : ℕ) (s : UnitSource) (roles : ℕ → Role → Option ℕ) (all : List Entry) (old : List (List ℕ)) (begun u : GivenUnit) (count : ℕ) (parents : List UnitEntryId) (wrappers : List OpenWrapper) (lineage : Stacks) (contexts : Contexts) (names : TypeNames)
-    → begun ≡ new_unit begun.address_size begun.lines → u ≡ reserved_more count begun → parents ≡ [] → wrappers ≡ [] → lineage ≡ no_stacks → contexts ≡ [] → KnowsNames c s old names → AreClonable all → AreRoles registers c s roles (length u.places) (placed_in c.unit.now.header.offset all)
+    → begun ≡ new_unit begun.version begun.address_size begun.lines → u ≡ reserved_more count begun → parents ≡ [] → wrappers ≡ [] → lineage ≡ no_stacks → contexts ≡ [] → KnowsNames c s old names → AreClonable all → AreRoles registers c s roles (length u.places) (placed_in c.unit.now.header.offset all)
     → AreAmong registers c number s roles all all 0 old old begun u parents wrappers lineage contexts names
 among-start registers c number s roles all old begun u count parents wrappers lineage contexts names begun_is is no_parents no_wrappers no_lineage no_contexts known can numbers = record {
   es = [];
@@ -143,8 +143,8 @@ among-start registers c number s roles all old begun u count parents wrappers li
   whole = refl;
 }
   where
-    alone_so : IsAlone begun.address_size begun.lines u
-    alone_so = subst (IsAlone begun.address_size begun.lines) (sym (is ∙ ap (reserved_more count) begun_is)) (alone begun.address_size begun.lines count)
+    alone_so : IsAlone begun.version begun.address_size begun.lines u
+    alone_so = subst (IsAlone begun.version begun.address_size begun.lines) (sym (is ∙ ap (reserved_more count) begun_is)) (alone begun.version begun.address_size begun.lines count)
 
     tree : IsTree (depths_of (can.root ∷ can.others))
     tree = subst (λ es. IsTree (depths_of es)) can.are can.tree
@@ -184,6 +184,7 @@ among-end registers c number s source roles all left next most old now begun u v
         record {
           grows = (a.so).grows;
           accepted = ap (clone_refusals registers c s) (sym are) ∙ (a.so).accepted;
+          version = ((ends.adds).extends).version ∙ built.version;
           size = ((ends.adds).extends).size ∙ built.size;
           lines = ((ends.adds).extends).lines ∙ built.lines;
           order = drafted_all.order;
@@ -225,5 +226,5 @@ among-more registers c number s roles all e left next old t0 t1 begun u v parent
 }
 
 -- The root of a unit that was begun is there, whatever numbers are reserved.
-pub root-known : (begun u : GivenUnit) (count : ℕ) → begun ≡ new_unit begun.address_size begun.lines → u ≡ reserved_more count begun → IsAdded 0 u
-root-known begun u count begun_is is = subst (IsAdded 0) (sym (is ∙ ap (reserved_more count) begun_is)) (ap is_some (alone begun.address_size begun.lines count).first)
+pub root-known : (begun u : GivenUnit) (count : ℕ) → begun ≡ new_unit begun.version begun.address_size begun.lines → u ≡ reserved_more count begun → IsAdded 0 u
+root-known begun u count begun_is is = subst (IsAdded 0) (sym (is ∙ ap (reserved_more count) begun_is)) (ap is_some (alone begun.version begun.address_size begun.lines count).first)

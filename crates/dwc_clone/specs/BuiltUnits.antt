@@ -105,16 +105,17 @@ pub record AreBuilt (registers : Registers) (c : CloneSource) (number : ℕ) (s 
   pub path : ArePath (draft_depths ds) 0 u parents
   pub some : 0 < length parents
   pub whole : ds ++ drafts_left registers c s stack left ≡ clone_drafts registers c s all
+  pub version : u.version ≡ begun.version
   pub size : u.address_size ≡ begun.address_size
   pub lines : u.lines ≡ begun.lines
 
 -- a unit without entries
-abbrev pub rootless : ℕ → GivenLines → List (Option ℕ) → GivenUnit
-rootless size lines places = record { address_size = size; lines = lines; places = places; additions = [] }
+abbrev pub rootless : ℕ → ℕ → GivenLines → List (Option ℕ) → GivenUnit
+rootless version size lines places = record { version = version; address_size = size; lines = lines; places = places; additions = [] }
 
 -- A unit has a root alone, with number 0; nothing is made yet.
 pub record IsBegun (begun u : GivenUnit) (old texts : List (List ℕ)) (parents : List UnitEntryId) (wrappers : List OpenWrapper) : Type 0 where
-  pub root : u ≡ with_last (record { parent = 0; tag = DW_TAG_compile_unit; attributes = [] }) (rootless begun.address_size begun.lines u.places)
+  pub root : u ≡ with_last (record { parent = 0; tag = DW_TAG_compile_unit; attributes = [] }) (rootless begun.version begun.address_size begun.lines u.places)
   pub first : place_of 0 u.places ≡ Some 0
   pub leads : LeadsToEntries u
   pub texts_are : texts ≡ old

@@ -81,11 +81,12 @@ pub record AreNumbered (goals : Goal → Option (ℕ × ℕ)) (number : ℕ) (ds
   pub told : AllZip (HasNumber goals number) ds numbers
 
 -- A unit of the output, of a number, is made of some entries: nothing of them is refused; what they become was added in file order, under
--- some numbers, and says what it is to say, with a table of texts that has grown; and the line program and the address size are those of
--- the unit that was begun.
+-- some numbers, and says what it is to say, with a table of texts that has grown; and the version, the address size and the line program
+-- are those of the unit that was begun.
 pub record IsCloned (registers : Registers) (c : CloneSource) (number : ℕ) (s : UnitSource) (es : List Entry) (old new : List (List ℕ)) (begun u : GivenUnit) : Type 0 where
   pub grows : Grows old new
   pub accepted : clone_refusals registers c s es ≡ []
+  pub version : u.version ≡ begun.version
   pub size : u.address_size ≡ begun.address_size
   pub lines : u.lines ≡ begun.lines
   pub order : IsInOrder (draft_depths (clone_drafts registers c s es)) u

@@ -62,7 +62,7 @@ pub fn clone_unit(
     translated: &mut BTreeSet<usize>,
 ) -> Result<Unit, CloneError>
     requires functions { HaveAddends source.now.transform.now }
-    requires begun { begun ≡ new_unit begun.address_size begun.lines }
+    requires begun { begun ≡ new_unit begun.version begun.address_size begun.lines }
     requires read { All IsReadEntry (entries_of source.now.unit.now.sections source.now.unit.now.header).items }
     requires names { IsText source.now.module.names.resolve_memory.now }
     requires texts { KnowsTexts source.now.unit.now.sections strings.old known.old }

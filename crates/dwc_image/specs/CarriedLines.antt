@@ -1,5 +1,5 @@
 -- What the line program of a unit carries of a line table.
-use Rattle.std.specs.Prelude.{◌≡◌, ℕ, suc, ◌≤◌, List, map, ◌++◌, nat_lt, if◌then◌else◌, Some, None, Ok, true}
+use Rattle.std.specs.Prelude.{◌≡◌, ℕ, suc, ◌≤◌, List, map, length, ◌++◌, nat_lt, if◌then◌else◌, Some, None, Ok, sum_by, true}
 use Rattle.std.specs.List.{filter, AllZip}
 use Rattle.dwc_dwarf.specs.LineHeaders.{LineFile}
 use Rattle.dwc_base.specs.declared.records.LineRow.{LineRow}
@@ -9,8 +9,7 @@ use Rattle.dwc_dwarf.specs.LineFiles.{has_all_files}
 use Rattle.dwc_native.specs.Functions.{Function, AddressMap, functions_of}
 use Rattle.dwc_addr.specs.Transforms.{first_bad_map}
 use Rattle.dwc_native.specs.Images.{is_carried_segment, IsImageOf}
-use Rattle.dwc_output.specs.Widest.{widest_table}
-use Rattle.dwc_unit.specs.WidestGiven.{widest_table_for}
+use Rattle.dwc_output.specs.Widest.{most_rows, widest_image}
 use Rattle.dwc_unit.specs.SpelledLines.{FitsName}
 use Rattle.dwc_unit.specs.GivenSegments.{given_segments}
 use Rattle.dwc_unit.specs.GivenLines.{GivenLines}
@@ -59,14 +58,14 @@ pub record AreKept (fs : List Function) : Type 0 where
   pub kept : fs ≡ functions_of code_offset first_number maps
 
 -- A line program has the directories and files of a table in order, and its sequences are, one to one and in order, images of
--- the carried segments of the table. At its widest it is no longer than the table.
+-- the carried segments of the table. At their widest they are no longer than these.
 pub record CarriesTable (t : LineTable) (fs : List Function) (size : ℕ) (g : GivenLines) : Type 0 where
   pub address_size : g.address_size ≡ Some size
   pub directories : g.directories ≡ t.header.directories
   pub files : g.files ≡ t.files
   pub ended : g.begun ≡ None
   pub images : AllZip (IsImageOf fs) (filter (is_carried_segment fs) (segments t)) (given_segments g)
-  pub widest : widest_table_for g.address_size g ≤ widest_table fs (Ok (Some t))
+  pub widest : sum_by (λ q. widest_image (length q.rows)) g.sequences ≤ sum_by (λ q. widest_image (most_rows fs q)) (filter (is_carried_segment fs) (segments t))
 
 abbrev pub with_directories : List (List ℕ) → GivenLines → GivenLines
 with_directories names g = record { address_size = g.address_size; directories = g.directories ++ names; files = g.files; sequences = g.sequences; begun = g.begun }
