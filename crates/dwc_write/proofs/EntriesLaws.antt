@@ -252,41 +252,41 @@ unplaced-attributes (x ∷ xs) = ap (λ ys. written_attribute no_places no_lists
 -- ---- values one behind another, of which the next lists stand at some places
 
 -- what is there, with what is still to be written
-abbrev pub values_left : ℕ → Places → Endian → ListPlaces → List Attribute → Writing → Writing
-values_left size p order place xs w = whole (attribute_bytes order size) (λ q x. value_relocations size q x.value) (written_attributes (behind_attributes size) p place xs) w
+abbrev pub values_left : ℕ → ℕ → Places → Endian → ListPlaces → List Attribute → Writing → Writing
+values_left version size p order place xs w = whole (attribute_bytes order size) (λ q x. value_relocations size q x.value) (written_attributes (behind_attributes version size) p place xs) w
 
-module _ (size : ℕ) (p : Places) (xs : List Attribute) (i : ℕ) (d : Attribute) (place start : ListPlaces) (a w : Writing) where
-  pub values-order : values_left size p a.order place (drop i xs) w ≡ values_left size p a.order start xs a → w.order ≡ a.order
+module _ (version size : ℕ) (p : Places) (xs : List Attribute) (i : ℕ) (d : Attribute) (place start : ListPlaces) (a w : Writing) where
+  pub values-order : values_left version size p a.order place (drop i xs) w ≡ values_left version size p a.order start xs a → w.order ≡ a.order
   values-order invariant = ap (λ (v : Writing). v.order) invariant
 
   -- a value more
-  pub values-more : (v : Writing) (after : ListPlaces) → i < length xs → values_left size p a.order place (drop i xs) w ≡ values_left size p a.order start xs a → after ≡ behind_value size place (get_or xs i d).value
+  pub values-more : (v : Writing) (after : ListPlaces) → i < length xs → values_left version size p a.order place (drop i xs) w ≡ values_left version size p a.order start xs a → after ≡ behind_value version size place (get_or xs i d).value
       → v ≡ appended (attribute_bytes w.order size (written_attribute p place (get_or xs i d))) (value_relocations size (length w.body) (written_of p place (get_or xs i d).value)) w
-      → values_left size p a.order after (drop (suc i) xs) v ≡ values_left size p a.order start xs a
+      → values_left version size p a.order after (drop (suc i) xs) v ≡ values_left version size p a.order start xs a
   values-more v after within invariant onwards step =
       let x = get_or xs i d in
-      let here = ap (λ ys. values_left size p a.order place ys w) (sym (drop-more xs i d within)) ∙ invariant in
+      let here = ap (λ ys. values_left version size p a.order place ys w) (sym (drop-more xs i d within)) ∙ invariant in
       let P : Endian → Type 0 = λ o. v ≡ appended (attribute_bytes o size (written_attribute p place x)) (value_relocations size (length w.body) (written_of p place x.value)) w in
       rw (onwards)
-      (whole-more (attribute_bytes a.order size) (λ q y. value_relocations size q y.value) (written_attribute p place x) (written_attributes (behind_attributes size) p (behind_value size place x.value) (drop (suc i) xs)) w v _ here (subst P (values-order invariant) step))
+      (whole-more (attribute_bytes a.order size) (λ q y. value_relocations size q y.value) (written_attribute p place x) (written_attributes (behind_attributes version size) p (behind_value version size place x.value) (drop (suc i) xs)) w v _ here (subst P (values-order invariant) step))
 
   -- a value that is refused
-  pub values-refused : (now : Writing) (result : Result (Unit {0}) WriteError) (error : WriteError) (rs : List OutputRelocation) → i < length xs → values_left size p a.order place (drop i xs) w ≡ values_left size p a.order start xs a
+  pub values-refused : (now : Writing) (result : Result (Unit {0}) WriteError) (error : WriteError) (rs : List OutputRelocation) → i < length xs → values_left version size p a.order place (drop i xs) w ≡ values_left version size p a.order start xs a
       → ((e : WriteError) × (result ≡ Err e) × (e ≡ error)) → Refuses error w (length (attribute_bytes w.order size (written_attribute p place (get_or xs i d))))
-      → Writes a now result (flat_map (attribute_bytes a.order size) (written_attributes (behind_attributes size) p start xs)) rs
+      → Writes a now result (flat_map (attribute_bytes a.order size) (written_attributes (behind_attributes version size) p start xs)) rs
   values-refused now result error rs within invariant met refused =
       let x = get_or xs i d in
-      let here = ap (λ ys. values_left size p a.order place ys w) (sym (drop-more xs i d within)) ∙ invariant in
+      let here = ap (λ ys. values_left version size p a.order place ys w) (sym (drop-more xs i d within)) ∙ invariant in
       let P : Endian → Type 0 = λ o. Refuses error w (length (attribute_bytes o size (written_attribute p place x))) in
-      let later = whole-refused (attribute_bytes a.order size) (λ q y. value_relocations size q y.value) (written_attribute p place x) (written_attributes (behind_attributes size) p (behind_value size place x.value) (drop (suc i) xs)) (written_attributes (behind_attributes size) p start xs) w a error here (subst P (values-order invariant) refused) in
+      let later = whole-refused (attribute_bytes a.order size) (λ q y. value_relocations size q y.value) (written_attribute p place x) (written_attributes (behind_attributes version size) p (behind_value version size place x.value) (drop (suc i) xs)) (written_attributes (behind_attributes version size) p start xs) w a error here (subst P (values-order invariant) refused) in
       let is_err : result ≡ Err error = met.1 ∙ ap Err met.2 in
       rw (is_err) later
 
-  pub values-done : length xs ≤ i → values_left size p a.order place (drop i xs) w ≡ values_left size p a.order start xs a → w ≡ values_left size p a.order start xs a
+  pub values-done : length xs ≤ i → values_left version size p a.order place (drop i xs) w ≡ values_left version size p a.order start xs a → w ≡ values_left version size p a.order start xs a
   values-done past invariant =
       let none : drop i xs ≡ [] = drop_all i xs past in
-      whole-done (attribute_bytes a.order size) (λ q x. value_relocations size q x.value) w _ (ap (λ ys. values_left size p a.order place ys w) (sym none) ∙ invariant)
+      whole-done (attribute_bytes a.order size) (λ q x. value_relocations size q x.value) w _ (ap (λ ys. values_left version size p a.order place ys w) (sym none) ∙ invariant)
 
   -- the next lists stand behind
-  pub next-place : (after : ListPlaces) → i < length xs → behind_attributes size place (drop i xs) ≡ behind_attributes size start xs → after ≡ behind_value size place (get_or xs i d).value → behind_attributes size after (drop (suc i) xs) ≡ behind_attributes size start xs
-  next-place after within invariant onwards = rw (onwards) (ap (behind_attributes size place) (sym (drop-more xs i d within)) ∙ invariant)
+  pub next-place : (after : ListPlaces) → i < length xs → behind_attributes version size place (drop i xs) ≡ behind_attributes version size start xs → after ≡ behind_value version size place (get_or xs i d).value → behind_attributes version size after (drop (suc i) xs) ≡ behind_attributes version size start xs
+  next-place after within invariant onwards = rw (onwards) (ap (behind_attributes version size place) (sym (drop-more xs i d within)) ∙ invariant)

@@ -115,5 +115,5 @@ trees-same order wanted all xs same carried = ap (λ s. trees (output_lists s) s
 pub texts-same : (order : Endian) (all xs : List OutputSection) → output_sections order all ≡ output_sections order xs → HasTextsOnce (output_sections order xs) → HasTextsOnce (output_sections order all)
 texts-same order all xs same once = subst HasTextsOnce (sym same) once
 
-pub form-same : (order : Endian) (size : ℕ) (all xs : List OutputSection) → output_sections order all ≡ output_sections order xs → HaveTargetForm 4 size (units (output_sections order xs)).items → HaveTargetForm 4 size (units (output_sections order all)).items
-form-same order size all xs same form = let P : Sections → Type 0 = λ s. HaveTargetForm 4 size (units s).items in subst P (sym same) form
+pub form-same : (order : Endian) (version size : ℕ) (all xs : List OutputSection) → output_sections order all ≡ output_sections order xs → HaveTargetForm version size (units (output_sections order xs)).items → HaveTargetForm version size (units (output_sections order all)).items
+form-same order version size all xs same form = let P : Sections → Type 0 = λ s. HaveTargetForm version size (units s).items in subst P (sym same) form

@@ -3,23 +3,34 @@ pub mod LayoutLaws
 pub mod ReadTables
 pub mod ReadAddresses
 pub mod ReadSections
+pub mod ReadLineTables
+pub mod UnitNameLaws
+pub mod TableFits
+pub mod UnitTables
 pub mod ListLaws
+pub mod ContributionLaws
 pub mod ReadListed
+pub mod ReadCounted
 pub mod ReadLists
+pub mod ReadCountedLists
 pub mod RelatedLists
 pub mod ListPlaces
+pub mod ListCases
 pub mod WidestLists
 pub mod ListsFit
 pub mod ListsGiven
 pub mod RelatedListsGiven
+pub mod RelatedCountedGiven
 pub mod SequenceLaws
 pub mod ShapeLaws
 pub mod ShapeWords
 pub mod ShapePlaces
 pub mod OrderedLaws
 pub mod ReadRelocations
+pub mod LineRelocations
 pub mod TableLaws
 pub mod EntriesLaws
+pub mod UnitHeaders
 pub mod UnitBytes
 pub mod OutputLaws
 pub mod PlacedEntries
@@ -32,12 +43,21 @@ pub mod ReadTrees
 pub mod OutputForms
 pub mod FramesBehind
 pub mod ReadFields
+pub mod InstructionFields
 pub mod ReadLineFields
 pub mod RelatedLaws
 pub mod WidestLaws
 pub mod WidestTreeLaws
 pub mod WideLaws
 pub mod ReferenceSmall
+pub mod ReadPaths
+pub mod PathLaws
+pub mod PathWrites
+pub mod PathTableLaws
+pub mod ReadPathProgram
+pub mod ReadPathTables
+pub mod ReadPathFields
+pub mod PathTablesWorked
 mod TextLaws
 mod ReadTexts
 mod SaidTexts

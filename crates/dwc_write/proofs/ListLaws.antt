@@ -40,46 +40,46 @@ part-refused spell at ys zs all w a e invariant refused =
 -- ---- a loop over things that each have some entries
 
 -- what is there, with the entries of the things that are left, is the whole
-abbrev pub lists_whole : Endian → ℕ → List ListEntry → Writing → Writing
-lists_whole order size rs w = whole (listed_bytes order size) (listed_relocations order size) rs w
+abbrev pub lists_whole : ℕ → Endian → ℕ → List ListEntry → Writing → Writing
+lists_whole version order size rs w = whole (listed_bytes version order size) (listed_relocations version order size) rs w
 
-module _ {B : Type 0} (size : ℕ) (lists : B → List ListEntry) (xs : List B) (i : ℕ) (d : B) (a w : Writing) where
-  pub lists-order : lists_whole a.order size (flat_map lists (drop i xs)) w ≡ lists_whole a.order size (flat_map lists xs) a → w.order ≡ a.order
-  lists-order invariant = whole-order (listed_bytes a.order size) (listed_relocations a.order size) (flat_map lists (drop i xs)) (flat_map lists xs) w a invariant
+module _ {B : Type 0} (version size : ℕ) (lists : B → List ListEntry) (xs : List B) (i : ℕ) (d : B) (a w : Writing) where
+  pub lists-order : lists_whole version a.order size (flat_map lists (drop i xs)) w ≡ lists_whole version a.order size (flat_map lists xs) a → w.order ≡ a.order
+  lists-order invariant = whole-order (listed_bytes version a.order size) (listed_relocations version a.order size) (flat_map lists (drop i xs)) (flat_map lists xs) w a invariant
 
-  pub lists-more : (v : Writing) → i < length xs → lists_whole a.order size (flat_map lists (drop i xs)) w ≡ lists_whole a.order size (flat_map lists xs) a
-      → v ≡ appended (list_bytes w.order size (lists (get_or xs i d))) (list_relocations w.order size (length w.body) (lists (get_or xs i d))) w
-      → lists_whole a.order size (flat_map lists (drop (suc i) xs)) v ≡ lists_whole a.order size (flat_map lists xs) a
+  pub lists-more : (v : Writing) → i < length xs → lists_whole version a.order size (flat_map lists (drop i xs)) w ≡ lists_whole version a.order size (flat_map lists xs) a
+      → v ≡ appended (list_bytes version w.order size (lists (get_or xs i d))) (list_relocations version w.order size (length w.body) (lists (get_or xs i d))) w
+      → lists_whole version a.order size (flat_map lists (drop (suc i) xs)) v ≡ lists_whole version a.order size (flat_map lists xs) a
   lists-more v within invariant step =
-      let here = ap (λ ys. lists_whole a.order size (flat_map lists ys) w) (sym (drop-more xs i d within)) ∙ invariant in
-      let P : Endian → Type 0 = λ o. v ≡ appended (list_bytes o size (lists (get_or xs i d))) (list_relocations o size (length w.body) (lists (get_or xs i d))) w in
-      whole-part (listed_bytes a.order size) (listed_relocations a.order size) (lists (get_or xs i d)) (flat_map lists (drop (suc i) xs)) w v _ here (subst P (lists-order invariant) step)
+      let here = ap (λ ys. lists_whole version a.order size (flat_map lists ys) w) (sym (drop-more xs i d within)) ∙ invariant in
+      let P : Endian → Type 0 = λ o. v ≡ appended (list_bytes version o size (lists (get_or xs i d))) (list_relocations version o size (length w.body) (lists (get_or xs i d))) w in
+      whole-part (listed_bytes version a.order size) (listed_relocations version a.order size) (lists (get_or xs i d)) (flat_map lists (drop (suc i) xs)) w v _ here (subst P (lists-order invariant) step)
 
-  pub lists-refused : (now : Writing) (result : Result (Unit {0}) WriteError) (e : WriteError) (rs : List OutputRelocation) → i < length xs → lists_whole a.order size (flat_map lists (drop i xs)) w ≡ lists_whole a.order size (flat_map lists xs) a
-      → ((error : WriteError) × (result ≡ Err error) × (error ≡ e)) → Refuses e w (length (list_bytes w.order size (lists (get_or xs i d))))
-      → Writes a now result (list_bytes a.order size (flat_map lists xs)) rs
+  pub lists-refused : (now : Writing) (result : Result (Unit {0}) WriteError) (e : WriteError) (rs : List OutputRelocation) → i < length xs → lists_whole version a.order size (flat_map lists (drop i xs)) w ≡ lists_whole version a.order size (flat_map lists xs) a
+      → ((error : WriteError) × (result ≡ Err error) × (error ≡ e)) → Refuses e w (length (list_bytes version w.order size (lists (get_or xs i d))))
+      → Writes a now result (list_bytes version a.order size (flat_map lists xs)) rs
   lists-refused now result e rs within invariant p refused =
-      let here = ap (λ ys. lists_whole a.order size (flat_map lists ys) w) (sym (drop-more xs i d within)) ∙ invariant in
-      let P : Endian → Type 0 = λ o. Refuses e w (length (list_bytes o size (lists (get_or xs i d)))) in
-      let later = part-refused (listed_bytes a.order size) (listed_relocations a.order size) (lists (get_or xs i d)) (flat_map lists (drop (suc i) xs)) (flat_map lists xs) w a e here (subst P (lists-order invariant) refused) in
+      let here = ap (λ ys. lists_whole version a.order size (flat_map lists ys) w) (sym (drop-more xs i d within)) ∙ invariant in
+      let P : Endian → Type 0 = λ o. Refuses e w (length (list_bytes version o size (lists (get_or xs i d)))) in
+      let later = part-refused (listed_bytes version a.order size) (listed_relocations version a.order size) (lists (get_or xs i d)) (flat_map lists (drop (suc i) xs)) (flat_map lists xs) w a e here (subst P (lists-order invariant) refused) in
       let is : result ≡ Err e = p.1 ∙ ap Err p.2 in
       rw (is) later
 
-  pub lists-done : length xs ≤ i → lists_whole a.order size (flat_map lists (drop i xs)) w ≡ lists_whole a.order size (flat_map lists xs) a → w ≡ lists_whole a.order size (flat_map lists xs) a
+  pub lists-done : length xs ≤ i → lists_whole version a.order size (flat_map lists (drop i xs)) w ≡ lists_whole version a.order size (flat_map lists xs) a → w ≡ lists_whole version a.order size (flat_map lists xs) a
   lists-done past invariant =
       let none : drop i xs ≡ [] = drop_all i xs past in
-      whole-done (listed_bytes a.order size) (listed_relocations a.order size) w _ (ap (λ ys. lists_whole a.order size (flat_map lists ys) w) (sym none) ∙ invariant)
+      whole-done (listed_bytes version a.order size) (listed_relocations version a.order size) w _ (ap (λ ys. lists_whole version a.order size (flat_map lists ys) w) (sym none) ∙ invariant)
 
 -- an entry behind others
-pub entry-behind : (size : ℕ) (rs : List ListEntry) (e : ListEntry) (a b c : Writing) (result : Result (Unit {0}) WriteError) → b ≡ appended (list_bytes a.order size rs) (list_relocations a.order size (length a.body) rs) a
-    → Writes b c result (listed_bytes b.order size e) (listed_relocations b.order size (length b.body) e) → Writes a c result (list_bytes a.order size (rs ++ (e ∷ []))) (list_relocations a.order size (length a.body) (rs ++ (e ∷ [])))
-entry-behind size rs e a b c result first second =
-    let x = list_bytes a.order size rs in
-    let r = list_relocations a.order size (length a.body) rs in
+pub entry-behind : (version size : ℕ) (rs : List ListEntry) (e : ListEntry) (a b c : Writing) (result : Result (Unit {0}) WriteError) → b ≡ appended (list_bytes version a.order size rs) (list_relocations version a.order size (length a.body) rs) a
+    → Writes b c result (listed_bytes version b.order size e) (listed_relocations version b.order size (length b.body) e) → Writes a c result (list_bytes version a.order size (rs ++ (e ∷ []))) (list_relocations version a.order size (length a.body) (rs ++ (e ∷ [])))
+entry-behind version size rs e a b c result first second =
+    let x = list_bytes version a.order size rs in
+    let r = list_relocations version a.order size (length a.body) rs in
     let order : b.order ≡ a.order = order-behind a b x r first in
     let long : length b.body ≡ length a.body + length x = length-behind a b x r first in
-    let P : Endian → ℕ → Type 0 = λ o n. Writes b c result (listed_bytes o size e) (listed_relocations o size n e) in
+    let P : Endian → ℕ → Type 0 = λ o n. Writes b c result (listed_bytes version o size e) (listed_relocations version o size n e) in
     let then : P a.order (length a.body + length x) = subst (λ n. P a.order n) long (subst (λ o. P o (length b.body)) order second) in
-    writes-then a b c x (listed_bytes a.order size e) _ r (listed_relocations a.order size (length a.body + length x) e) _ result first then
-    (flat_map-append (listed_bytes a.order size) rs (e ∷ []) ∙ ap (λ y. x ++ y) (append-nil (listed_bytes a.order size e)))
-    (at_places-append (listed_bytes a.order size) (listed_relocations a.order size) rs (e ∷ []) (length a.body) ∙ ap (λ y. r ++ y) (append-nil (listed_relocations a.order size (length a.body + length x) e)))
+    writes-then a b c x (listed_bytes version a.order size e) _ r (listed_relocations version a.order size (length a.body + length x) e) _ result first then
+    (flat_map-append (listed_bytes version a.order size) rs (e ∷ []) ∙ ap (λ y. x ++ y) (append-nil (listed_bytes version a.order size e)))
+    (at_places-append (listed_bytes version a.order size) (listed_relocations version a.order size) rs (e ∷ []) (length a.body) ∙ ap (λ y. r ++ y) (append-nil (listed_relocations version a.order size (length a.body + length x) e)))

@@ -119,6 +119,7 @@ pub ordered-fits : (u : GivenUnit) → FitsGivenUnit u → FitsOrdered (ordered 
 ordered-fits u fits =
     let few = fits.few in
     record {
+      version = fits.version;
       size = fits.size;
       lines = fits.lines;
       tree = order-tree u.additions fits.rooted;

@@ -1,5 +1,6 @@
 -- What holds of each section that is written, and that their names are distinct: `distinct-names`.
-use Rattle.std.proofs.Common.{◌≡◌, ◌≢◌, ℕ, List, [], ◌∷◌, ◌++◌, false, refl, arith}
+use Rattle.std.proofs.Common.{◌≡◌, ◌≢◌, ℕ, List, [], ◌∷◌, ◌++◌, Bool, true, false, refl, sym, subst, arith}
+use Rattle.std.specs.Prelude.{◌&&◌, not, if◌then◌else◌}
 use Rattle.std.specs.List.{All}
 use Rattle.std.specs.Str.{bytes_eq}
 use Rattle.std.proofs.lemmas.Slice.Eq.{bytes_eq-Decides}
@@ -7,12 +8,14 @@ use Rattle.std.proofs.lemmas.List.Elements.{All-cons, All-nil}
 use Rattle.std.proofs.lemmas.List.Kept.{AllPairs-cons}
 use Rattle.dwc_base.specs.declared.records.Endian.{Endian}
 use Rattle.dwc_base.specs.declared.section_name.SectionName.{SectionName}
-use Rattle.dwc_base.specs.declared.section_name.SectionName.TheVariants.{Abbrev, Frame, Info, Line, Loc, Ranges, Str}
+use Rattle.dwc_base.specs.declared.section_name.SectionName.TheVariants.{Frame, Loc, Loclists, Ranges, Rnglists}
 use Rattle.dwc_base.specs.Sections.{section_text}
 use Rattle.dwc_base.specs.Outputs.{OutputRelocation, OutputSection}
 use Rattle.dwc_output.specs.OutputForm.{HasDistinctNames}
-use Rattle.dwc_unit.specs.GivenUnits.{OrderedUnit}
+use Rattle.dwc_output.specs.Versions.{is_old}
+use Rattle.dwc_unit.specs.GivenUnits.{OrderedUnit, version_of}
 use Rattle.dwc_write.specs.SpelledOutput.{section_unless_empty, spelled_sections}
+use Rattle.dwc_write.proofs.SectionsHold.{Part, are-written, sections_of_seven, seven, written}
 
 -- what holds of a section that is written, and of the others
 pub all-written : (P : OutputSection → Type 0) (name : SectionName) (bytes : List ℕ) (rs : List OutputRelocation) (others : List OutputSection)
@@ -30,43 +33,52 @@ Differ x y = x.name ≢ y.name
 pub none-differ : HasDistinctNames []
 none-differ i j d less within = absurd (omega arith)
 
+-- ---- names that are not those of others
+
+abbrev is_apart : List ℕ → List Part → Bool
+is_apart name [] = true
+is_apart name (p ∷ ps) = not (bytes_eq (section_text p.name) name) && is_apart name ps
+
+abbrev are_apart : List Part → Bool
+are_apart [] = true
+are_apart (p ∷ ps) = is_apart (section_text p.name) ps && are_apart ps
+
+both : (a b : Bool) → (a && b) ≡ true → (a ≡ true) × (b ≡ true)
+both true b e = (refl, e)
+both false b e = absurd (cc)
+
+unequal : (a b : List ℕ) → not (bytes_eq a b) ≡ true → bytes_eq a b ≡ false
+unequal a b e = go (bytes_eq a b) refl e
+  where
+    go : (c : Bool) → bytes_eq a b ≡ c → not c ≡ true → bytes_eq a b ≡ false
+    go true is e = absurd (cc)
+    go false is e = is
+
+differ : (a b : List ℕ) → bytes_eq b a ≡ false → a ≢ b
+differ a b not_so e = let same = (bytes_eq-Decides b a).1 (sym e) in absurd (cc)
+
+parts-differ : (name : List ℕ) (ps : List Part) → is_apart name ps ≡ true → All (λ t. name ≢ t.name) (written ps)
+parts-differ name [] e = All-nil _
+parts-differ name (p ∷ ps) e =
+    let apart = both (not (bytes_eq (section_text p.name) name)) (is_apart name ps) e in
+    all-written (λ t. name ≢ t.name) p.name p.body p.relocations (written ps) (differ name (section_text p.name) (unequal (section_text p.name) name apart.0)) (parts-differ name ps apart.1)
+
 distinct-written : (name : SectionName) (bytes : List ℕ) (rs : List OutputRelocation) (others : List OutputSection) → All (λ t. section_text name ≢ t.name) others → HasDistinctNames others → HasDistinctNames (section_unless_empty name bytes rs ++ others)
 distinct-written name [] rs others here rest = rest
 distinct-written name (b ∷ bytes) rs others here rest = AllPairs-cons Differ _ others here rest
 
-distinct-last : (name : SectionName) (bytes : List ℕ) (rs : List OutputRelocation) → HasDistinctNames (section_unless_empty name bytes rs)
-distinct-last name [] rs = none-differ
-distinct-last name (b ∷ bytes) rs = AllPairs-cons Differ _ [] (All-nil _) none-differ
-
-differ : (a b : SectionName) → bytes_eq (section_text a) (section_text b) ≡ false → section_text a ≢ section_text b
-differ a b not e = let same = (bytes_eq-Decides (section_text a) (section_text b)).1 e in absurd (cc)
-
--- Abbreviations, entries, line tables, lists of both kinds and texts have names of their own.
-distinct-six : (x y z v l w : List ℕ) (q r t k : List OutputRelocation)
-    → HasDistinctNames (section_unless_empty Abbrev x [] ++ (section_unless_empty Info y q ++ (section_unless_empty Line z r ++ (section_unless_empty Ranges v t ++ (section_unless_empty Loc l k ++ section_unless_empty Str w [])))))
-distinct-six x y z v l w q r t k =
-    let texts = section_unless_empty Str w [] in
-    let locations = section_unless_empty Loc l k ++ texts in
-    let lists = section_unless_empty Ranges v t ++ locations in
-    let lines = section_unless_empty Line z r ++ lists in
-    distinct-written Abbrev x [] (section_unless_empty Info y q ++ lines)
-    (all-written (λ t. section_text Abbrev ≢ t.name) Info y q lines (differ Abbrev Info refl)
-    (all-written (λ t. section_text Abbrev ≢ t.name) Line z r lists (differ Abbrev Line refl)
-    (all-written (λ t. section_text Abbrev ≢ t.name) Ranges v t locations (differ Abbrev Ranges refl)
-    (all-written (λ t. section_text Abbrev ≢ t.name) Loc l k texts (differ Abbrev Loc refl) (last-written (λ t. section_text Abbrev ≢ t.name) Str w [] (differ Abbrev Str refl))))))
-    (distinct-written Info y q lines
-    (all-written (λ t. section_text Info ≢ t.name) Line z r lists (differ Info Line refl)
-    (all-written (λ t. section_text Info ≢ t.name) Ranges v t locations (differ Info Ranges refl)
-    (all-written (λ t. section_text Info ≢ t.name) Loc l k texts (differ Info Loc refl) (last-written (λ t. section_text Info ≢ t.name) Str w [] (differ Info Str refl)))))
-    (distinct-written Line z r lists
-    (all-written (λ t. section_text Line ≢ t.name) Ranges v t locations (differ Line Ranges refl)
-    (all-written (λ t. section_text Line ≢ t.name) Loc l k texts (differ Line Loc refl) (last-written (λ t. section_text Line ≢ t.name) Str w [] (differ Line Str refl))))
-    (distinct-written Ranges v t locations
-    (all-written (λ t. section_text Ranges ≢ t.name) Loc l k texts (differ Ranges Loc refl) (last-written (λ t. section_text Ranges ≢ t.name) Str w [] (differ Ranges Str refl)))
-    (distinct-written Loc l k texts (last-written (λ t. section_text Loc ≢ t.name) Str w [] (differ Loc Str refl)) (distinct-last Str w [])))))
+parts-distinct : (ps : List Part) → are_apart ps ≡ true → HasDistinctNames (written ps)
+parts-distinct [] e = none-differ
+parts-distinct (p ∷ ps) e =
+    let apart = both (is_apart (section_text p.name) ps) (are_apart ps) e in
+    distinct-written p.name p.body p.relocations (written ps) (parts-differ (section_text p.name) ps apart.0) (parts-distinct ps apart.1)
 
 pub distinct-names : (order : Endian) (texts : List (List ℕ)) (us : List OrderedUnit) → HasDistinctNames (spelled_sections order texts us)
-distinct-names order texts us = distinct-six _ _ _ _ _ _ _ _ _ _
+distinct-names order texts us = by_version (is_old (version_of us)) _ _ _ _ _ _ _ _ _ _ _
+  where
+    by_version : (old : Bool) (x y z n v l w : List ℕ) (q r t k : List OutputRelocation) → HasDistinctNames (sections_of_seven (if old then Ranges else Rnglists) (if old then Loc else Loclists) x y z n v l w q r t k)
+    by_version true x y z n v l w q r t k = subst HasDistinctNames (sym (are-written Ranges Loc order x y z n v l w q r t k)) (parts-distinct (seven Ranges Loc order x y z n v l w q r t k) refl)
+    by_version false x y z n v l w q r t k = subst HasDistinctNames (sym (are-written Rnglists Loclists order x y z n v l w q r t k)) (parts-distinct (seven Rnglists Loclists order x y z n v l w q r t k) refl)
 
 -- ---- the frames have another name
 
@@ -74,18 +86,15 @@ distinct-names order texts us = distinct-six _ _ _ _ _ _ _ _ _ _
 abbrev pub IsOther : OutputSection → Type 0
 IsOther s = bytes_eq s.name (section_text Frame) ≡ false
 
-others-six : (x y z v l w : List ℕ) (q r t k : List OutputRelocation)
-    → All IsOther (section_unless_empty Abbrev x [] ++ (section_unless_empty Info y q ++ (section_unless_empty Line z r ++ (section_unless_empty Ranges v t ++ (section_unless_empty Loc l k ++ section_unless_empty Str w [])))))
-others-six x y z v l w q r t k =
-    let texts = section_unless_empty Str w [] in
-    let locations = section_unless_empty Loc l k ++ texts in
-    let lists = section_unless_empty Ranges v t ++ locations in
-    let lines = section_unless_empty Line z r ++ lists in
-    all-written IsOther Abbrev x [] (section_unless_empty Info y q ++ lines) refl
-    (all-written IsOther Info y q lines refl
-    (all-written IsOther Line z r lists refl
-    (all-written IsOther Ranges v t locations refl
-    (all-written IsOther Loc l k texts refl (last-written IsOther Str w [] refl)))))
+parts-other : (ps : List Part) → is_apart (section_text Frame) ps ≡ true → All IsOther (written ps)
+parts-other [] e = All-nil IsOther
+parts-other (p ∷ ps) e =
+    let apart = both (not (bytes_eq (section_text p.name) (section_text Frame))) (is_apart (section_text Frame) ps) e in
+    all-written IsOther p.name p.body p.relocations (written ps) (unequal (section_text p.name) (section_text Frame) apart.0) (parts-other ps apart.1)
 
 pub all-others : (order : Endian) (texts : List (List ℕ)) (us : List OrderedUnit) → All IsOther (spelled_sections order texts us)
-all-others order texts us = others-six _ _ _ _ _ _ _ _ _ _
+all-others order texts us = by_version (is_old (version_of us)) _ _ _ _ _ _ _ _ _ _ _
+  where
+    by_version : (old : Bool) (x y z n v l w : List ℕ) (q r t k : List OutputRelocation) → All IsOther (sections_of_seven (if old then Ranges else Rnglists) (if old then Loc else Loclists) x y z n v l w q r t k)
+    by_version true x y z n v l w q r t k = subst (All IsOther) (sym (are-written Ranges Loc order x y z n v l w q r t k)) (parts-other (seven Ranges Loc order x y z n v l w q r t k) refl)
+    by_version false x y z n v l w q r t k = subst (All IsOther) (sym (are-written Rnglists Loclists order x y z n v l w q r t k)) (parts-other (seven Rnglists Loclists order x y z n v l w q r t k) refl)

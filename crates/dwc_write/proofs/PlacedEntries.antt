@@ -11,10 +11,10 @@ use Rattle.dwc_base.specs.declared.records.Endian.{Endian}
 use Rattle.dwc_dwarf.specs.Entries.{Entry}
 use Rattle.dwc_dwarf.specs.ReadUnits.{Unit as ReadUnit}
 use Rattle.dwc_dwarf.specs.Trees.{place_among}
-use Rattle.dwc_base.specs.NumberBytes.{number_bytes, uleb_bytes}
+use Rattle.dwc_base.specs.NumberBytes.{uleb_bytes}
 use Rattle.dwc_section.specs.Spelled.{at_places}
 use Rattle.dwc_unit.specs.SpelledTables.{table_bytes}
-use Rattle.dwc_unit.specs.SpelledUnits.{WrittenEntry, written_bytes, attribute_bytes, next_depth, Shaped, shaped, entry_bytes, entries_bytes, read_entry, header_length, unit_body}
+use Rattle.dwc_unit.specs.SpelledUnits.{WrittenEntry, written_bytes, attribute_bytes, next_depth, Shaped, shaped, entry_bytes, entries_bytes, read_entry, header_length}
 use Rattle.dwc_write.specs.SpelledSections.{placed_unit_bytes, info_bytes, lines_bytes}
 use Rattle.dwc_unit.specs.declared.attributes.Attribute.{Attribute}
 use Rattle.dwc_unit.specs.declared.attributes.AttributeValue.{AttributeValue}
@@ -24,9 +24,10 @@ use Rattle.dwc_unit.specs.GivenUnits.{GivenEntry, OrderedUnit, Places, no_places
 use Rattle.dwc_unit.specs.declared.lists.ListPlaces.{ListPlaces}
 use Rattle.dwc_unit.specs.Lists.{behind_attributes, no_lists, nowhere}
 use Rattle.dwc_unit.specs.GivenTrees.{place_in_order}
-use Rattle.dwc_write.specs.Layouts.{AllPlaces, entry_offsets, unit_length, offset_among, offset_if_added, offsets_by_number, places_of_units, offset_in_section, places_in, behind_unit, written_unit, written_lines, written_units}
+use Rattle.dwc_write.specs.Layouts.{AllPlaces, entry_offsets, unit_length, offset_among, offset_if_added, offsets_by_number, places_of_units, offset_in_section, places_in, behind_unit, lists_from, table_of, written_unit, written_units}
 use Rattle.dwc_section.proofs.ReadNumbers.{number_bytes-length, uleb_bytes-small, uleb_bytes-more}
 use Rattle.dwc_write.proofs.EntriesLaws.{next-first}
+use Rattle.dwc_write.proofs.UnitHeaders.{header-some, unit-long}
 
 -- ---- lengths do not hang on places
 
@@ -91,10 +92,9 @@ module _ (order : Endian) (size : ℕ) where
   -- A unit is as long as it is while nothing has a place.
   pub placed-length : (lists : ListPlaces) (p : Places) (a : ℕ) (u : OrderedUnit) → length (placed_unit_bytes order size (written_unit size lists p a u)) ≡ unit_length order size u
   placed-length lists p a u =
-      let es = written_entries (behind_attributes size) p lists (shapes_in u) u.entries in
-      let bytes = entries_bytes order size es in
-      let body = unit_body order size a es in
-      omega (arith, entries-length (behind_attributes size) p lists (shapes_in u) u.entries, number_bytes-length order 4 (length body), number_bytes-length order 2 4, number_bytes-length order 4 a, length-append (number_bytes order 4 (length body)) body, length-append (number_bytes order 2 4) (number_bytes order 4 a ++ ((size ∷ []) ++ bytes)), length-append (number_bytes order 4 a) ((size ∷ []) ++ bytes))
+      let next = behind_attributes u.version size in
+      let first = lists_from u.version u.entries lists in
+      omega (arith, entries-length next p first (shapes_in u) u.entries, unit-long u.version order size a (written_entries next p first (shapes_in u) u.entries))
 
   -- ---- offsets
 
@@ -181,7 +181,7 @@ added-below es os end (Some k) below = among-below k end es os below
 pub offset-within : (order : Endian) (size : ℕ) (u : OrderedUnit) (id : ℕ) → get_or (offsets_by_number order size u) id 0 ≤ unit_length order size u
 offset-within order size u id =
     let os = entry_offsets order size u in
-    let below = offsets-below order size (shaped (written_entries nowhere no_places no_lists (shapes_in u) u.entries)) header_length (unit_length order size u) (omega arith) in
+    let below = offsets-below order size (shaped (written_entries nowhere no_places no_lists (shapes_in u) u.entries)) (header_length u.version) (unit_length order size u) (omega arith) in
     omega (arith, by-number u.entries os u.places id, added-below u.entries os (unit_length order size u) (place_of id u.places) below)
 
 -- ---- units
@@ -190,9 +190,9 @@ offset-within order size u id =
 pub info-length : (order : Endian) (size : ℕ) (units : AllPlaces) (a l : ℕ) (r : ListPlaces) (us : List OrderedUnit) → length (info_bytes order size (written_units order size units a l r us)) ≡ sum_by (unit_length order size) us
 info-length order size units a l r [] = refl
 info-length order size units a l r (u ∷ us) =
-    let p = places_in units (offsets_by_number order size u) l in
+    let p = places_in units u.version (offsets_by_number order size u) l in
     let table_at = a + length (table_bytes (numbered 1 (shapes_in u))) in
-    let line_at = l + length (lines_bytes order size (written_lines u.lines)) in
+    let line_at = l + length (lines_bytes order size (table_of units u)) in
     let lists_at = behind_unit order size r u in
     let rest = written_units order size units table_at line_at lists_at us in
     omega (arith, placed-length order size r p a u, info-length order size units table_at line_at lists_at us, length-append (placed_unit_bytes order size (written_unit size r p a u)) (info_bytes order size rest), sum_by-cons (unit_length order size) u us)
@@ -276,10 +276,10 @@ StandFrom order size start (u ∷ us) (v ∷ vs) = StandsAt order size start u v
 
 module _ (order : Endian) (size : ℕ) where
   offsets-above : (u : OrderedUnit) → AreAbove 10 u.entries (entry_offsets order size u)
-  offsets-above u = entries-above order size (shapes_in u) u.entries 10 header_length (omega arith)
+  offsets-above u = entries-above order size (shapes_in u) u.entries 10 (header_length u.version) (header-some u.version)
 
   offsets-inside : (u : OrderedUnit) → All (λ o. o < unit_length order size u) (entry_offsets order size u)
-  offsets-inside u = offsets-below order size (shaped (written_entries nowhere no_places no_lists (shapes_in u) u.entries)) header_length (unit_length order size u) (omega arith)
+  offsets-inside u = offsets-below order size (shaped (written_entries nowhere no_places no_lists (shapes_in u) u.entries)) (header_length u.version) (unit_length order size u) (omega arith)
 
   -- entries that are read, by their offsets
   by-offset : (start n : ℕ) (u : OrderedUnit) (v : ReadUnit) → StandsAt order size start u v → position (λ e. e.offset == n) v.entries ≡ position (λ o. o == n) (map (λ o. start + o) (entry_offsets order size u))

@@ -10,22 +10,25 @@ use Rattle.std.proofs.lemmas.Bool.{eqb-true}
 use Rattle.std.proofs.lemmas.List.Elements.{All-head, All-tail, All-cons, All-nil, All-append, All-weaker, All-map}
 use Rattle.dwc_base.specs.declared.records.Endian.{Endian}
 use Rattle.dwc_base.specs.declared.section_name.SectionName.{SectionName}
-use Rattle.dwc_base.specs.declared.section_name.SectionName.TheVariants.{Abbrev, Info, Line, Loc, Ranges, Str}
+use Rattle.dwc_base.specs.declared.section_name.SectionName.TheVariants.{Abbrev, Info, Line, LineStr, Str}
 use Rattle.dwc_base.specs.declared.constants.TheConstants.{DW_AT_stmt_list, DW_FORM_data1, DW_FORM_data2, DW_FORM_data4, DW_FORM_data8, DW_FORM_sdata}
 use Rattle.dwc_base.specs.Abbreviations.{Declaration, declaration_of}
-use Rattle.dwc_base.specs.declared.records.LineRow.{LineRow}
-use Rattle.dwc_dwarf.specs.LineRows.{source_file, in_directory, named_row}
 use Rattle.dwc_base.specs.Sections.{Sections}
 use Rattle.dwc_dwarf.specs.Values.{Value}
 use Rattle.dwc_dwarf.specs.Entries.{Entry, attribute}
 use Rattle.dwc_dwarf.specs.ReadUnits.{Unit, units, root, line_offset, table_of_root, table_of_unit}
 use Rattle.dwc_base.specs.Outputs.{OutputRelocation, OutputSection, output_sections}
-use Rattle.dwc_base.specs.NumberBytes.{number_bytes}
+use Rattle.dwc_base.specs.NumberBytes.{number_bytes, uleb_bytes}
 use Rattle.dwc_section.specs.Spelled.{at_places}
 use Rattle.dwc_unit.specs.SpelledTables.{FitsSpec, FitsDeclaration, AreNumbered, table_bytes}
 use Rattle.dwc_unit.specs.SpelledUnits as spelled
 use Rattle.dwc_unit.specs.SpelledUnits.{Written, as_addr, as_data1, as_data2, as_data4, as_data8, as_udata, as_sdata, form_number, FitsWritten, written_value, WrittenAttribute, spec_of, WrittenEntry, Shaped, next_depth, shaped, declaration_for, entry_bytes, entries_bytes, read_entry, read_entries, header_length, unit_body}
-use Rattle.dwc_unit.specs.SpelledLines.{FitsSequence, WrittenSequence, line_body, sequences_instructions, read_segment}
+use Rattle.dwc_output.specs.FieldKinds.{section_of_locations, section_of_ranges}
+use Rattle.dwc_output.specs.Versions.{is_old}
+use Rattle.dwc_unit.specs.LineNames.{names_of_unit, own_directory}
+use Rattle.dwc_unit.specs.TextTables.{AreTexts}
+use Rattle.dwc_write.specs.PathTables.{path_table_body, path_table_bytes}
+use Rattle.dwc_unit.specs.SpelledLines.{line_body, line_table_bytes, sequences_instructions}
 use Rattle.dwc_write.specs.SpelledSections.{WrittenUnit, placed_unit_bytes, tables_bytes, info_bytes, read_unit, read_units, FitsUnit, AreTablesFrom, WrittenTable, one_table_bytes, lines_bytes, PlacedTable, placed_tables, read_table, FitsTable}
 use Rattle.dwc_write.specs.SpelledRelocations.{info_relocations, lines_relocations}
 use Rattle.dwc_unit.specs.declared.attributes.Attribute.{Attribute}
@@ -34,26 +37,29 @@ use Rattle.dwc_unit.specs.declared.attributes.AttributeValue.TheVariants.{Addres
 use Rattle.dwc_unit.specs.declared.attributes.DebugInfoRef.TheVariants.{Entry as entry_of}
 use Rattle.dwc_unit.specs.declared.attributes.AttributeForm.{AttributeForm}
 use Rattle.dwc_unit.specs.GivenLines.{GivenLines, FitsLines, FitsSequences, FitsGivenSequence}
-use Rattle.dwc_unit.specs.GivenUnits.{GivenEntry, OrderedUnit, Places, no_places, IsOfSize, written_of, FitsValue, FitsAttribute, FitsMemory, AreBelow, IsTree, FitsEntry, FitsOrdered, is_lines, names_lines_in, names_lines, IsWritable, size_of, AreWritable, EntryShape, form_of, forms_of, shape_of, shapes_of, same_shape, place_in, with_use, first_uses, code_in, spec_of_form, numbered, shapes_in, written_attribute, written_attributes, written_entries, behind_entries, lists_of_entries, lists_of_units}
-use Rattle.dwc_write.specs.Layouts.{AllPlaces, AreShort, offset_of_text, offsets_by_number, offset_in_section, places_in, unit_length, behind_unit, written_unit, written_lines, written_units, written_tables}
+use Rattle.dwc_unit.specs.GivenUnits.{GivenEntry, OrderedUnit, Places, no_places, IsOfSize, written_of, FitsValue, FitsAttribute, FitsMemory, AreBelow, IsTree, FitsEntry, FitsOrdered, IsWrittenVersion, is_lines, names_lines_in, names_lines, IsWritable, size_of, version_of, AreShortUnits, AreWritable, EntryShape, form_of, forms_of, shape_of, shapes_of, same_shape, place_in, with_use, first_uses, code_in, spec_of_form, numbered, shapes_in, written_attribute, written_attributes, written_entries, behind_entries, lists_of_entries}
+use Rattle.dwc_write.specs.Layouts.{AllPlaces, AreShort, offset_of_text, offsets_by_number, offset_in_section, places_in, unit_length, behind_unit, first_place, lists_from, table_of, written_unit, written_units, written_tables}
 use Rattle.dwc_unit.specs.UsedTexts.{strings_bytes}
-use Rattle.dwc_write.specs.SpelledOutput.{section_unless_empty, abbrev_bytes, all_info_bytes, all_lines_bytes, all_lists_bytes, all_lists_relocations, units_placed, all_places, spelled_sections}
+use Rattle.dwc_write.specs.SpelledOutput.{section_unless_empty, abbrev_bytes, all_info_bytes, all_lines_bytes, all_lists_bytes, all_lists_relocations, names_bytes, unit_lists_bytes, unit_lists_relocations, units_placed, all_places, spelled_sections}
 use Rattle.dwc_write.specs.ReadBack.{Contents, read_contents, given_contents, given_value, given_values, ReadsLines, IsReadUnit, ReadsBack}
-use Rattle.dwc_unit.specs.GivenSegments.{given_file, given_row, given_segment}
 use Rattle.dwc_section.specs.Writers.{IsSound, most_bytes}
 use Rattle.dwc_write.proofs.ShapeLaws.{same_shape-equal}
 use Rattle.dwc_section.proofs.ReadNumbers.{number_bytes-length}
 use Rattle.dwc_write.proofs.ReadTexts.{offset-bound}
 use Rattle.dwc_write.proofs.ReadTables.{numbered-found}
-use Rattle.dwc_write.proofs.ReadRelocations.{info-functions, lines-functions}
+use Rattle.dwc_write.proofs.LineRelocations.{lines-functions}
+use Rattle.dwc_write.proofs.ReadRelocations.{info-functions}
 use Rattle.dwc_unit.proofs.RowFields.{at_places-append}
 use Rattle.dwc_unit.specs.declared.lists.ListPlaces.{ListPlaces}
-use Rattle.dwc_unit.specs.Lists.{ListEntry, AreWithin, behind_attributes, behind_value, list_bytes, list_relocations, listed_bytes, locations_in, no_lists, ranges_in}
-use Rattle.dwc_write.proofs.ListPlaces.{both-length, entries-behind, listed-length, places_behind, within-attributes, within-entries}
+use Rattle.dwc_unit.specs.Lists.{ListEntry, AreWithin, behind_attributes, behind_value, contribution_bytes, contribution_relocations, headed_bytes, held_length, list_bytes, listed_bytes, locations_in, no_lists, ranges_in}
+use Rattle.dwc_write.proofs.ListsStand.{StandAlong, ranges-short, units-stand}
+use Rattle.dwc_write.proofs.UnitTables.{names-there, segments-given}
+use Rattle.dwc_write.proofs.TableFits.{AreNamesThere, lines-are, lines_for, table-fits, tables-texts}
+use Rattle.dwc_write.proofs.ListPlaces.{entries-behind, headed-length, listed-length, places_behind, within-attributes, within-entries}
 use Rattle.dwc_write.proofs.SectionsHold.{Holds, sections-hold}
-use Rattle.dwc_unit.proofs.ReadValues.{All-back}
-use Rattle.dwc_unit.proofs.ReadLines.{line-table-segments}
-use Rattle.dwc_write.proofs.ReadSections.{IsReadAt, units-read, lines-read, unit-table-read}
+use Rattle.dwc_unit.proofs.ReadValues.{All-back, All-front}
+use Rattle.dwc_write.proofs.ReadLineTables.{IsReadAt, lines-read, table-says, unit-table-read}
+use Rattle.dwc_write.proofs.ReadSections.{units-read}
 use Rattle.dwc_unit.proofs.LineLaws.{field-address}
 use Rattle.dwc_write.proofs.EntriesLaws.{code-there, next-first}
 use Rattle.dwc_write.proofs.PlacedEntries.{placed-length, offset-within, places-short, info-length}
@@ -116,11 +122,11 @@ value-fits size p lists a near short_list fits = go a.value fits.value fits.held
     go (UnitRef id) h held = let short = near.entry id.index in omega (arith, short)
     go (DebugInfoRef (entry_of unit id)) h held = let short = near.entry_of unit.index id.index in omega (arith, short)
 
-values-fit : (size : ℕ) (p : Places) (lists : ListPlaces) (xs : List Attribute) → AreShort p → AreWithin (behind_attributes size lists xs) → All (FitsAttribute size) xs → All (λ a. FitsWritten size a.value) (written_attributes (behind_attributes size) p lists xs)
-values-fit size p lists [] near short fits = All-nil _
-values-fit size p lists (x ∷ xs) near short fits =
-    All-cons (λ (a : WrittenAttribute). FitsWritten size a.value) (written_attribute p lists x) (written_attributes (behind_attributes size) p (behind_value size lists x.value) xs)
-    (value-fits size p lists x near (within-attributes size lists (x ∷ xs) short) (All-head (FitsAttribute size) x xs fits)) (values-fit size p (behind_value size lists x.value) xs near short (All-tail (FitsAttribute size) x xs fits))
+values-fit : (version size : ℕ) (p : Places) (lists : ListPlaces) (xs : List Attribute) → AreShort p → AreWithin (behind_attributes version size lists xs) → All (FitsAttribute size) xs → All (λ a. FitsWritten size a.value) (written_attributes (behind_attributes version size) p lists xs)
+values-fit version size p lists [] near short fits = All-nil _
+values-fit version size p lists (x ∷ xs) near short fits =
+    All-cons (λ (a : WrittenAttribute). FitsWritten size a.value) (written_attribute p lists x) (written_attributes (behind_attributes version size) p (behind_value version size lists x.value) xs)
+    (value-fits size p lists x near (within-attributes version size lists (x ∷ xs) short) (All-head (FitsAttribute size) x xs fits)) (values-fit version size p (behind_value version size lists x.value) xs near short (All-tail (FitsAttribute size) x xs fits))
 
 -- ---- codes
 
@@ -159,23 +165,23 @@ code-declared s shapes within =
 
 -- ---- entries
 
-entries-fit : (size : ℕ) (p : Places) (lists : ListPlaces) (known uses : List EntryShape) (es : List GivenEntry) → AreShort p → AreWithin (behind_entries size lists es) → length uses < 2 ^ 64 → first_uses known (shapes_of es) ≡ uses → All (FitsEntry size) es
-    → All (spelled.FitsEntry (numbered 1 uses) size) (shaped (written_entries (behind_attributes size) p lists uses es))
-entries-fit size p lists known uses [] near short few used fits = All-nil _
-entries-fit size p lists known uses (e ∷ es) near short few used fits =
+entries-fit : (version size : ℕ) (p : Places) (lists : ListPlaces) (known uses : List EntryShape) (es : List GivenEntry) → AreShort p → AreWithin (behind_entries version size lists es) → length uses < 2 ^ 64 → first_uses known (shapes_of es) ≡ uses → All (FitsEntry size) es
+    → All (spelled.FitsEntry (numbered 1 uses) size) (shaped (written_entries (behind_attributes version size) p lists uses es))
+entries-fit version size p lists known uses [] near short few used fits = All-nil _
+entries-fit version size p lists known uses (e ∷ es) near short few used fits =
     let s = shape_of e es in
-    let next = behind_attributes size lists e.attributes in
+    let next = behind_attributes version size lists e.attributes in
     let there : place_in s uses < length uses = rw (used) at (code-there s known (shapes_of es)) in
     let found = code-declared s uses there in
-    let others = entries-fit size p next (with_use s known) uses es near short few used (All-tail (FitsEntry size) e es fits) in
+    let others = entries-fit version size p next (with_use s known) uses es near short few used (All-tail (FitsEntry size) e es fits) in
     let here = All-head (FitsEntry size) e es fits in
-    let rest = written_entries (behind_attributes size) p next uses es in
+    let rest = written_entries (behind_attributes version size) p next uses es in
     All-cons (spelled.FitsEntry (numbered 1 uses) size) _ (shaped rest)
     (record {
       some = omega arith;
       code = omega (arith, there, few);
-      declared = found ∙ ap Some (ap (λ d. record { code = code_in uses s; tag = e.tag; has_children = nat_lt e.depth d; attributes = map spec_of_form (forms_of e.attributes) }) (sym (next-first (behind_attributes size) p next uses es)) ∙ ap (λ xs. record { code = code_in uses s; tag = e.tag; has_children = nat_lt e.depth (next_depth rest); attributes = xs }) (sym (forms-same (behind_attributes size) p lists e.attributes)));
-      values = values-fit size p lists e.attributes near (within-entries size next es short) here.attributes;
+      declared = found ∙ ap Some (ap (λ d. record { code = code_in uses s; tag = e.tag; has_children = nat_lt e.depth d; attributes = map spec_of_form (forms_of e.attributes) }) (sym (next-first (behind_attributes version size) p next uses es)) ∙ ap (λ xs. record { code = code_in uses s; tag = e.tag; has_children = nat_lt e.depth (next_depth rest); attributes = xs }) (sym (forms-same (behind_attributes version size) p lists e.attributes)));
+      values = values-fit version size p lists e.attributes near (within-entries version size next es short) here.attributes;
     })
     others
 
@@ -281,13 +287,26 @@ pub lengths-both : {A : Type 0} (f : A → List ℕ) (xs ys : List A) → length
 lengths-both f [] ys = omega arith
 lengths-both f (x ∷ xs) ys = omega (arith, lengths-both f xs ys, length-append (f x) (flat_map f (xs ++ ys)), length-append (f x) (flat_map f xs))
 
-body-shorter : (order : Endian) (size : ℕ) (u : WrittenUnit) → length (unit_body order size u.table_offset u.entries) ≤ length (placed_unit_bytes order size u)
+body-shorter : (order : Endian) (size : ℕ) (u : WrittenUnit) → length (unit_body u.version order size u.table_offset u.entries) ≤ length (placed_unit_bytes order size u)
 body-shorter order size u =
-    let body = unit_body order size u.table_offset u.entries in
+    let body = unit_body u.version order size u.table_offset u.entries in
     omega (arith, length-append (number_bytes order 4 (length body)) body)
 
+-- the first lists of a unit stand within their sections, and so do those behind them
+first-within : (order : Endian) (size : ℕ) (version place : ℕ) (es : List ListEntry) → place + length (contribution_bytes version order size es) ≤ most_bytes → first_place version es place + length (list_bytes version order size es) ≤ most_bytes
+first-within order size version place [] short = omega (arith, short)
+first-within order size version place (e ∷ es) short = go (is_old version) short
+  where
+    go : (b : Bool) → place + length (if b then list_bytes version order size (e ∷ es) else headed_bytes version order size (e ∷ es)) ≤ most_bytes → (place + (if b then 0 else 12)) + length (list_bytes version order size (e ∷ es)) ≤ most_bytes
+    go true short = omega (arith, short)
+    go false short = omega (arith, short, headed-length version order size e es)
+
+-- where the lists of units end
+abbrev pub lists_behind : Endian → ℕ → ListPlaces → List OrderedUnit → ListPlaces
+lists_behind order size r us = record { ranges = r.ranges + length (flat_map (unit_lists_bytes ranges_in order size) us); locations = r.locations + length (flat_map (unit_lists_bytes locations_in order size) us) }
+
 pub units-fit : (order : Endian) (size a l : ℕ) (r : ListPlaces) (units : AllPlaces) (us : List OrderedUnit) → All (λ u. u.address_size ≡ size) us → All FitsOrdered us → ((unit id : ℕ) → offset_in_section units.units unit id ≤ most_bytes) → ((id : ℕ) → offset_of_text units.texts id ≤ most_bytes)
-    → a + length (tables_bytes (written_units order size units a l r us)) ≤ most_bytes → l + length (lines_bytes order size (written_tables us)) ≤ most_bytes → AreWithin (places_behind order size r (lists_of_units ranges_in us) (lists_of_units locations_in us)) → length (info_bytes order size (written_units order size units a l r us)) ≤ most_bytes
+    → a + length (tables_bytes (written_units order size units a l r us)) ≤ most_bytes → l + length (lines_bytes order size (written_tables units us)) ≤ most_bytes → AreWithin (lists_behind order size r us) → length (info_bytes order size (written_units order size units a l r us)) ≤ most_bytes
     → All (FitsUnit order size) (written_units order size units a l r us)
 units-fit order size a l r units [] sized fits near texts tables lines lists info = All-nil _
 units-fit order size a l r units (u ∷ us) sized fits near texts tables lines lists info =
@@ -295,76 +314,53 @@ units-fit order size a l r units (u ∷ us) sized fits near texts tables lines l
     let same : u.address_size ≡ size = All-head (λ (v : OrderedUnit). v.address_size ≡ size) u us sized in
     let P : ℕ → Type 0 = λ n. All (FitsEntry n) u.entries in
     let entries : All (FitsEntry size) u.entries = subst P same here.entries in
-    let p = places_in units (offsets_by_number order size u) l in
+    let p = places_in units u.version (offsets_by_number order size u) l in
     let unit = written_unit size r p a u in
+    let first = lists_from u.version u.entries r in
     let few = here.few in
-    let rest = written_units order size units (a + length (table_bytes unit.table)) (l + length (lines_bytes order size (written_lines u.lines))) (behind_unit order size r u) us in
-    let ranges = both-length order size (lists_of_entries ranges_in u.entries) (lists_of_units ranges_in us) in
-    let locations = both-length order size (lists_of_entries locations_in u.entries) (lists_of_units locations_in us) in
+    let rest = written_units order size units (a + length (table_bytes unit.table)) (l + length (lines_bytes order size (table_of units u))) (behind_unit order size r u) us in
+    let ranges = length-append (unit_lists_bytes ranges_in order size u) (flat_map (unit_lists_bytes ranges_in order size) us) in
+    let locations = length-append (unit_lists_bytes locations_in order size u) (flat_map (unit_lists_bytes locations_in order size) us) in
     let ranges_short = lists.ranges in
     let locations_short = lists.locations in
-    let own : AreWithin (places_behind order size r (lists_of_entries ranges_in u.entries) (lists_of_entries locations_in u.entries)) = record { ranges = omega (arith, ranges_short, ranges); locations = omega (arith, locations_short, locations) } in
-    let behind : AreWithin (places_behind order size (behind_unit order size r u) (lists_of_units ranges_in us) (lists_of_units locations_in us)) = record { ranges = omega (arith, ranges_short, ranges); locations = omega (arith, locations_short, locations) } in
+    let own : AreWithin (places_behind u.version order size first (lists_of_entries ranges_in u.entries) (lists_of_entries locations_in u.entries)) = record {
+      ranges = first-within order size u.version r.ranges (lists_of_entries ranges_in u.entries) (omega (arith, ranges_short, ranges));
+      locations = first-within order size u.version r.locations (lists_of_entries locations_in u.entries) (omega (arith, locations_short, locations));
+    } in
+    let behind : AreWithin (lists_behind order size (behind_unit order size r u) us) = record { ranges = omega (arith, ranges_short, ranges); locations = omega (arith, locations_short, locations) } in
     let long = uses-length [] u.entries in
     let whole = length-append (placed_unit_bytes order size unit) (info_bytes order size rest) in
     let length_of : length (placed_unit_bytes order size unit) ≡ unit_length order size u = placed-length order size r p a u in
     let short : AreShort p = record { line = omega (arith, lines); entry = λ id. omega (arith, offset-within order size u id, length_of, whole, info); entry_of = near; text = texts } in
     All-cons (FitsUnit order size) unit rest
     (record {
+      version = here.version;
       offset = omega (arith, tables);
       short = omega (arith, info, body-shorter order size unit, whole);
       table = numbered-fit 1 (shapes_in u) (lit< tt) (omega (arith, long, few)) (uses-fit size [] u.entries entries (All-nil FitsShape));
-      entries = entries-fit size p r [] (shapes_in u) u.entries short (subst AreWithin (sym (entries-behind order size r u.entries)) own) (omega (arith, long, few)) refl entries;
-      tree = tree-written (behind_attributes size) p r (shapes_in u) u.entries here.tree;
+      entries = entries-fit u.version size p first [] (shapes_in u) u.entries short (subst AreWithin (sym (entries-behind u.version order size first u.entries)) own) (omega (arith, long, few)) refl entries;
+      tree = tree-written (behind_attributes u.version size) p first (shapes_in u) u.entries here.tree;
     })
-    (units-fit order size (a + length (table_bytes unit.table)) (l + length (lines_bytes order size (written_lines u.lines))) (behind_unit order size r u) units us (All-tail (λ (v : OrderedUnit). v.address_size ≡ size) u us sized) (All-tail FitsOrdered u us fits) near texts
-    (omega (arith, tables, length-append (table_bytes unit.table) (tables_bytes rest))) (omega (arith, lines, lengths-both (one_table_bytes order size) (written_lines u.lines) (written_tables us))) behind (omega (arith, info, whole)))
+    (units-fit order size (a + length (table_bytes unit.table)) (l + length (lines_bytes order size (table_of units u))) (behind_unit order size r u) units us (All-tail (λ (v : OrderedUnit). v.address_size ≡ size) u us sized) (All-tail FitsOrdered u us fits) near texts
+    (omega (arith, tables, length-append (table_bytes unit.table) (tables_bytes rest))) (omega (arith, lines, lengths-both (one_table_bytes order size) (table_of units u) (written_tables units us))) behind (omega (arith, info, whole)))
 
 pub tables-from : (order : Endian) (size : ℕ) (units : AllPlaces) (us : List OrderedUnit) (a l : ℕ) (r : ListPlaces) → AreTablesFrom a (written_units order size units a l r us)
 tables-from order size units [] a l r = tt
-tables-from order size units (u ∷ us) a l r = (refl, tables-from order size units us (a + length (table_bytes (numbered 1 (shapes_in u)))) (l + length (lines_bytes order size (written_lines u.lines))) (behind_unit order size r u))
+tables-from order size units (u ∷ us) a l r = (refl, tables-from order size units us (a + length (table_bytes (numbered 1 (shapes_in u)))) (l + length (lines_bytes order size (table_of units u))) (behind_unit order size r u))
 
 -- ---- all line tables
 
-abbrev pub lines_for : Option ℕ → GivenLines → List WrittenTable
-lines_for None g = []
-lines_for (Some n) g = record { directories = g.directories; files = g.files; sequences = g.sequences } ∷ []
-
-pub lines-are : (g : GivenLines) → written_lines g ≡ lines_for g.address_size g
-lines-are g = go g.address_size
-  where
-    go : (n : Option ℕ) → ◌≡◌ {A = List WrittenTable} (elim n [ None ↦ [] | Some size ↦ record { directories = g.directories; files = g.files; sequences = g.sequences } ∷ [] ]) (lines_for n g)
-    go None = refl
-    go (Some n) = refl
-
-line-body-shorter : (order : Endian) (size : ℕ) (t : WrittenTable) → length (line_body order size t.directories t.files (sequences_instructions t.sequences)) ≤ length (one_table_bytes order size t)
-line-body-shorter order size t =
-    let body = line_body order size t.directories t.files (sequences_instructions t.sequences) in
-    omega (arith, length-append (number_bytes order 4 (length body)) body)
-
-table-fits : (order : Endian) (size : ℕ) (g : GivenLines) → FitsLines g → (n : ℕ) → n ≡ size → FitsSequences (Some n) g.sequences g.begun → length (line_body order size g.directories g.files (sequences_instructions g.sequences)) < 0xFFFFFFF0
-    → FitsTable order size (record { directories = g.directories; files = g.files; sequences = g.sequences })
-table-fits order size g fits n same sequences short =
-    let P : ℕ → Type 0 = λ m. All (FitsGivenSequence m) g.sequences in
-    record { directories = fits.directories; files = fits.files; sequences = All-weaker (FitsGivenSequence size) (FitsSequence size) (λ q h. h.sequence) g.sequences (subst P same sequences.0); short = short }
-
-pub tables-fit : (order : Endian) (size : ℕ) (us : List OrderedUnit) → All (λ u. u.address_size ≡ size) us → All FitsOrdered us → All (λ u. FitsLines u.lines) us → length (lines_bytes order size (written_tables us)) ≤ most_bytes → All (FitsTable order size) (written_tables us)
-tables-fit order size [] sized fits lines short = All-nil _
-tables-fit order size (u ∷ us) sized fits lines short =
-    let g = u.lines in
+pub tables-fit : (order : Endian) (size : ℕ) (places : AllPlaces) (us : List OrderedUnit) → (size ≡ 4) ⊎ (size ≡ 8) → All (λ u. u.address_size ≡ size) us → All FitsOrdered us → All (λ u. FitsLines u.lines) us
+    → All (λ u. AreNamesThere u.version places.names (names_of_unit places.table u)) us → length (lines_bytes order size (written_tables places us)) ≤ most_bytes → All (FitsTable order size) (written_tables places us)
+tables-fit order size places [] known sized fits lines names short = All-nil _
+tables-fit order size places (u ∷ us) known sized fits lines names short =
     let same : u.address_size ≡ size = All-head (λ (v : OrderedUnit). v.address_size ≡ size) u us sized in
-    let total = lengths-both (one_table_bytes order size) (written_lines g) (written_tables us) in
-    let here = All-head (λ (v : OrderedUnit). FitsLines v.lines) u us lines in
     let unit = All-head FitsOrdered u us fits in
-    let others = tables-fit order size us (All-tail (λ (v : OrderedUnit). v.address_size ≡ size) u us sized) (All-tail FitsOrdered u us fits) (All-tail (λ (v : OrderedUnit). FitsLines v.lines) u us lines) (omega (arith, short, total)) in
-    let own : length (lines_bytes order size (lines_for g.address_size g)) ≤ most_bytes = rw (← lines-are g) (omega (arith, short, total)) in
-    All-append (FitsTable order size) (written_lines g) (written_tables us) (rw (lines-are g) (go g.address_size unit.lines here.sequences same own here)) others
-  where
-    go : (n : Option ℕ) → IsOfSize u.address_size n → FitsSequences n u.lines.sequences u.lines.begun → u.address_size ≡ size → length (lines_bytes order size (lines_for n u.lines)) ≤ most_bytes → FitsLines u.lines → All (FitsTable order size) (lines_for n u.lines)
-    go None sized sequences same own fits = All-nil _
-    go (Some n) sized sequences same own fits =
-        let t : WrittenTable = record { directories = u.lines.directories; files = u.lines.files; sequences = u.lines.sequences } in
-        All-cons (FitsTable order size) t [] (table-fits order size u.lines fits n (sized ∙ same) sequences (omega (arith, own, line-body-shorter order size t, length-append (one_table_bytes order size t) []))) (All-nil (FitsTable order size))
+    let total = lengths-both (one_table_bytes order size) (table_of places u) (written_tables places us) in
+    let N : OrderedUnit → Type 0 = λ v. AreNamesThere v.version places.names (names_of_unit places.table v) in
+    let others = tables-fit order size places us known (All-tail (λ (v : OrderedUnit). v.address_size ≡ size) u us sized) (All-tail FitsOrdered u us fits) (All-tail (λ (v : OrderedUnit). FitsLines v.lines) u us lines) (All-tail N u us names) (omega (arith, short, total)) in
+    All-append (FitsTable order size) (table_of places u) (written_tables places us)
+    (table-fits order size u.version places.names (own_directory places.table u) u.lines known unit.version (All-head (λ (v : OrderedUnit). FitsLines v.lines) u us lines) (subst (λ n. IsOfSize n u.lines.address_size) same unit.lines) (All-head N u us names) (omega (arith, short, total))) others
 
 -- ---- what is read of each unit
 
@@ -426,24 +422,7 @@ lines-named size next p lists (x ∷ xs) fits = go (x.name == DW_AT_stmt_list) r
         ap (λ n. line_offset (Some (written_value n (written_of p lists x.value)))) name ∙ value-named size p lists x.value (subst P name (All-head (FitsAttribute size) x xs fits).value)
     go false e others = others
 
--- the files, rows and sequences of a table that is read are those that were given
-file-same : (order : Endian) (size : ℕ) (g : GivenLines) (p : PlacedTable) → p.table ≡ record { directories = g.directories; files = g.files; sequences = g.sequences } → (n : ℕ) → source_file (read_table order size p) n ≡ given_file g n
-file-same order size g p is zero = refl
-file-same order size g p is (suc n) = ap (λ (t : WrittenTable). option_and_then (in_directory t.directories) (slice_get t.files n)) is
-
-rows-same : (order : Endian) (size : ℕ) (g : GivenLines) (p : PlacedTable) → p.table ≡ record { directories = g.directories; files = g.files; sequences = g.sequences } → (rs : List LineRow) → map (named_row (read_table order size p)) rs ≡ map (given_row g) rs
-rows-same order size g p is [] = refl
-rows-same order size g p is (r ∷ rs) =
-    ap (λ f. record { offset = r.offset; source = record { file = f; line = r.line; column = r.column; is_stmt = r.is_stmt; basic_block = r.basic_block; prologue_end = r.prologue_end; epilogue_begin = r.epilogue_begin; isa = r.isa; discriminator = r.discriminator } } ∷ map (named_row (read_table order size p)) rs) (file-same order size g p is r.file)
-    ∙ ap (λ xs. given_row g r ∷ xs) (rows-same order size g p is rs)
-
-segments-same : (order : Endian) (size : ℕ) (g : GivenLines) (p : PlacedTable) → p.table ≡ record { directories = g.directories; files = g.files; sequences = g.sequences } → (qs : List WrittenSequence) → map (read_segment (read_table order size p)) qs ≡ map (given_segment g) qs
-segments-same order size g p is [] = refl
-segments-same order size g p is (q ∷ qs) =
-    ap (λ rs. record { start = q.start_address; rows = rs; end = Some q.end_offset } ∷ map (read_segment (read_table order size p)) qs) (rows-same order size g p is q.rows)
-    ∙ ap (λ xs. given_segment g q ∷ xs) (segments-same order size g p is qs)
-
-module _ (s : Sections) (size : ℕ) where
+module _ (s : Sections) (size : ℕ) (places : AllPlaces) where
   -- a unit whose root names no line table
   table-without : (v : Unit) (e : Entry) → root v ≡ Some e → line_offset (attribute DW_AT_stmt_list e) ≡ None → table_of_unit s v ≡ Ok None
   unfolding table_of_unit
@@ -452,59 +431,64 @@ module _ (s : Sections) (size : ℕ) where
       rw (table_of_unit, is_root, table) refl
 
   -- the lines of a unit, from its root's entry
-  root-lines : (v : Unit) (e : Entry) (l : ℕ) (g : GivenLines) (rest : List WrittenTable) (n : Option ℕ) → v.header.address_size ≡ size → root v ≡ Some e → line_offset (attribute DW_AT_stmt_list e) ≡ named_offset l (is_some n) → FitsLines g → IsOfSize size n → FitsSequences n g.sequences g.begun
-      → All (IsReadAt s size) (placed_tables s.order size l (lines_for n g ++ rest))
+  root-lines : (v : Unit) (e : Entry) (l : ℕ) (own : List ℕ) (g : GivenLines) (rest : List WrittenTable) (n : Option ℕ) → v.header.address_size ≡ size → root v ≡ Some e → line_offset (attribute DW_AT_stmt_list e) ≡ named_offset l (is_some n)
+      → FitsSequences n g.sequences g.begun → All (FitsTable s.order size) (lines_for v.header.version places.names own n g) → All (IsReadAt s size) (placed_tables s.order size l (lines_for v.header.version places.names own n g ++ rest))
       → ReadsLines s v g n
-  root-lines v e l g rest None sized is_root names fits same sequences read = table-without v e is_root names
-  root-lines v e l g rest (Some n) sized is_root names fits same sequences read =
-      let t : WrittenTable = record { directories = g.directories; files = g.files; sequences = g.sequences } in
+  root-lines v e l own g rest None sized is_root names sequences fits read = table-without v e is_root names
+  root-lines v e l own g rest (Some n) sized is_root names sequences fits read =
+      let t = (let t : WrittenTable = record { version = v.header.version; texts = places.names; own = own; directories = g.directories; files = g.files; sequences = g.sequences } in t) in
       let p : PlacedTable = record { offset = l; table = t } in
       let here : IsReadAt s size p = All-head (IsReadAt s size) p _ read in
-      let P : ℕ → Type 0 = λ m. All (FitsGivenSequence m) g.sequences in
-      let fit = All-weaker (FitsGivenSequence size) (FitsSequence size) (λ q h. h.sequence) g.sequences (subst P same sequences.0) in
+      let fit : FitsTable s.order size t = All-head (FitsTable s.order size) t [] fits in
+      let says = table-says s.order size p fit in
       record {
         table = read_table s.order size p;
         table_read = unit-table-read s size v e p sized is_root names here;
-        version = refl;
-        directories = refl;
-        files = refl;
-        sequences = line-table-segments s.order size l g.directories g.files g.sequences fit ∙ segments-same s.order size g p refl g.sequences;
+        version = says.version;
+        directories = says.directories;
+        files = says.files;
+        sequences = says.sequences ∙ segments-given s.order size p fit g refl refl refl;
       }
 
-  unit-lines : (place a : ℕ) (r : ListPlaces) (p : Places) (u : OrderedUnit) (rest : List WrittenTable) → u.address_size ≡ size → FitsOrdered u → FitsLines u.lines → IsWritable size u
-      → All (IsReadAt s size) (placed_tables s.order size p.line (written_lines u.lines ++ rest))
+  unit-lines : (place a : ℕ) (r : ListPlaces) (p : Places) (u : OrderedUnit) (rest : List WrittenTable) → u.address_size ≡ size → FitsOrdered u → FitsLines u.lines → names_lines u.entries ≡ is_some u.lines.address_size → All (FitsTable s.order size) (table_of places u)
+      → All (IsReadAt s size) (placed_tables s.order size p.line (table_of places u ++ rest))
       → ReadsLines s (read_unit s.order size place (written_unit size r p a u)) u.lines u.lines.address_size
-  unit-lines place a r p u rest same fits lines writable read = at-root u.entries fits.tree fits.entries writable.named
+  unit-lines place a r p u rest same fits lines named tables read = at-root u.entries fits.tree fits.entries named
     where
+      first : ListPlaces
+      first = lists_from u.version u.entries r
+
       at-root : (es : List GivenEntry) → IsTree es → All (FitsEntry u.address_size) es → names_lines es ≡ is_some u.lines.address_size
-          → ReadsLines s (record { header = (read_unit s.order size place (written_unit size r p a u)).header; entries = read_entries s.order size (place + header_length) (written_entries (behind_attributes size) p r (shapes_in u) es) }) u.lines u.lines.address_size
+          → ReadsLines s (record { header = (read_unit s.order size place (written_unit size r p a u)).header; entries = read_entries s.order size (place + header_length u.version) (written_entries (behind_attributes u.version size) p first (shapes_in u) es) }) u.lines u.lines.address_size
       at-root [] tree all named = absurd tree
       at-root (e ∷ es) tree all named =
-          let names = ap (λ xs. line_offset (found_in xs)) (attributes-read (behind_attributes size) p r e.attributes) ∙ lines-named u.address_size (behind_attributes size) p r e.attributes (All-head (FitsEntry u.address_size) e es all).attributes ∙ ap (named_offset p.line) named in
+          let names = ap (λ xs. line_offset (found_in xs)) (attributes-read (behind_attributes u.version size) p first e.attributes) ∙ lines-named u.address_size (behind_attributes u.version size) p first e.attributes (All-head (FitsEntry u.address_size) e es all).attributes ∙ ap (named_offset p.line) named in
+          let own = own_directory places.table u in
           let P : List WrittenTable → Type 0 = λ ts. All (IsReadAt s size) (placed_tables s.order size p.line (ts ++ rest)) in
-          let Q : ℕ → Type 0 = λ n. IsOfSize n u.lines.address_size in
-          root-lines _ _ p.line u.lines rest u.lines.address_size refl refl names lines (subst Q same fits.lines) lines.sequences (subst P (lines-are u.lines) read)
+          root-lines _ _ p.line own u.lines rest u.lines.address_size refl refl names lines.sequences (subst (All (FitsTable s.order size)) (lines-are u.version places.names own u.lines) tables) (subst P (lines-are u.version places.names own u.lines) read)
 
-  units-each : (place a l : ℕ) (r : ListPlaces) (units : AllPlaces) (us : List OrderedUnit) → All (IsWritable size) us → All FitsOrdered us → All (λ u. FitsLines u.lines) us
-      → All (IsReadAt s size) (placed_tables s.order size l (written_tables us))
-      → AllZip (IsReadUnit s) us (read_units s.order size place (written_units s.order size units a l r us))
-  units-each place a l r units [] writable fits lines read = tt
-  units-each place a l r units (u ∷ us) writable fits lines read =
-      let here = All-head (IsWritable size) u us writable in
-      let p = places_in units (offsets_by_number s.order size u) l in
+  units-each : (version place a l : ℕ) (r : ListPlaces) (us : List OrderedUnit) → All (IsWritable version size) us → All FitsOrdered us → All (λ u. FitsLines u.lines) us → All (FitsTable s.order size) (written_tables places us)
+      → All (IsReadAt s size) (placed_tables s.order size l (written_tables places us))
+      → AllZip (IsReadUnit s) us (read_units s.order size place (written_units s.order size places a l r us))
+  units-each version place a l r [] writable fits lines tables read = tt
+  units-each version place a l r (u ∷ us) writable fits lines tables read =
+      let here = All-head (IsWritable version size) u us writable in
+      let p = places_in places u.version (offsets_by_number s.order size u) l in
+      let first = lists_from u.version u.entries r in
       let unit = written_unit size r p a u in
-      let split = at_places-append (one_table_bytes s.order size) (λ p t. record { offset = p; table = t } ∷ []) (written_lines u.lines) (written_tables us) l in
+      let split = at_places-append (one_table_bytes s.order size) (λ p t. record { offset = p; table = t } ∷ []) (table_of places u) (written_tables places us) l in
       let P : List PlacedTable → Type 0 = λ ps. All (IsReadAt s size) ps in
-      let others = All-back (IsReadAt s size) (placed_tables s.order size l (written_lines u.lines)) _ (subst P split read) in (
+      let others = All-back (IsReadAt s size) (placed_tables s.order size l (table_of places u)) _ (subst P split read) in (
         record {
           places = p;
-          lists = r;
+          lists = first;
           version = refl;
           address_size = sym here.size;
-          entries = places-contents s.order size (shaped unit.entries) (place + header_length) ∙ contents-given (behind_attributes size) p r (shapes_in u) u.entries ∙ ap (λ n. given_contents (behind_attributes n) p r u.entries) (sym here.size);
-          lines = unit-lines place a r p u (written_tables us) here.size (All-head FitsOrdered u us fits) (All-head (λ (v : OrderedUnit). FitsLines v.lines) u us lines) here read;
+          entries = places-contents s.order size (shaped unit.entries) (place + header_length u.version) ∙ contents-given (behind_attributes u.version size) p first (shapes_in u) u.entries ∙ ap (λ n. given_contents (behind_attributes u.version n) p first u.entries) (sym here.size);
+          lines = unit-lines place a r p u (written_tables places us) here.size (All-head FitsOrdered u us fits) (All-head (λ (v : OrderedUnit). FitsLines v.lines) u us lines) here.named (All-front (FitsTable s.order size) (table_of places u) _ tables) read;
         },
-        units-each (place + length (placed_unit_bytes s.order size unit)) (a + length (table_bytes unit.table)) (l + length (lines_bytes s.order size (written_lines u.lines))) (behind_unit s.order size r u) units us (All-tail (IsWritable size) u us writable) (All-tail FitsOrdered u us fits) (All-tail (λ (v : OrderedUnit). FitsLines v.lines) u us lines) others,
+        units-each version (place + length (placed_unit_bytes s.order size unit)) (a + length (table_bytes unit.table)) (l + length (lines_bytes s.order size (table_of places u))) (behind_unit s.order size r u) us (All-tail (IsWritable version size) u us writable) (All-tail FitsOrdered u us fits) (All-tail (λ (v : OrderedUnit). FitsLines v.lines) u us lines)
+            (All-back (FitsTable s.order size) (table_of places u) _ tables) others,
       )
 
 -- ---- the sections
@@ -512,18 +496,58 @@ module _ (s : Sections) (size : ℕ) where
 pub info-none : (order : Endian) (size : ℕ) (ws : List WrittenUnit) → info_bytes order size ws ≡ [] → info_relocations order size 0 ws ≡ []
 info-none order size [] e = refl
 info-none order size (w ∷ ws) e =
-    let body = unit_body order size w.table_offset w.entries in
+    let body = unit_body w.version order size w.table_offset w.entries in
     absurd (omega (arith, ap length e, length-append (placed_unit_bytes order size w) (info_bytes order size ws), length-append (number_bytes order 4 (length body)) body, number_bytes-length order 4 (length body)))
+
+-- a table has bytes
+table-some : (order : Endian) (size : ℕ) (t : WrittenTable) → 0 < length (one_table_bytes order size t)
+table-some order size t = go (is_old t.version)
+  where
+    go : (b : Bool) → 0 < length (if b then line_table_bytes order size t.directories t.files (sequences_instructions t.sequences) else path_table_bytes order size t.texts t.own t.directories t.files (sequences_instructions t.sequences))
+    go true =
+        let body = line_body order size t.directories t.files (sequences_instructions t.sequences) in
+        omega (arith, length-append (number_bytes order 4 (length body)) body, number_bytes-length order 4 (length body))
+    go false =
+        let body = path_table_body order size t.texts t.own t.directories t.files (sequences_instructions t.sequences) in
+        omega (arith, length-append (number_bytes order 4 (length body)) body, number_bytes-length order 4 (length body))
 
 pub lines-none : (order : Endian) (size : ℕ) (ts : List WrittenTable) → lines_bytes order size ts ≡ [] → lines_relocations order size 0 ts ≡ []
 lines-none order size [] e = refl
-lines-none order size (t ∷ ts) e =
-    let body = line_body order size t.directories t.files (sequences_instructions t.sequences) in
-    absurd (omega (arith, ap length e, length-append (one_table_bytes order size t) (lines_bytes order size ts), length-append (number_bytes order 4 (length body)) body, number_bytes-length order 4 (length body)))
+lines-none order size (t ∷ ts) e = absurd (omega (arith, ap length e, length-append (one_table_bytes order size t) (lines_bytes order size ts), table-some order size t))
 
-pub lists-none : (order : Endian) (size : ℕ) → 0 < size → (es : List ListEntry) → list_bytes order size es ≡ [] → list_relocations order size 0 es ≡ []
-lists-none order size some [] e = refl
-lists-none order size some (x ∷ es) e = absurd (omega (arith, ap length e, length-append (listed_bytes order size x) (list_bytes order size es), listed-length order size x, some))
+-- without a byte, lists have no relocation
+lists-within : (version : ℕ) (order : Endian) (size : ℕ) (es : List ListEntry) → length (list_bytes version order size es) ≤ length (contribution_bytes version order size es)
+lists-within version order size es = go es (is_old version)
+  where
+    go : (fs : List ListEntry) (old : Bool) → length (list_bytes version order size fs) ≤ length (if old then list_bytes version order size fs else headed_bytes version order size fs)
+    go fs true = omega arith
+    go [] false = omega arith
+    go (f ∷ fs) false = omega (arith, headed-length version order size f fs)
+
+entry-some : (version : ℕ) (order : Endian) (size : ℕ) → 0 < size → (e : ListEntry) → 0 < length (listed_bytes version order size e)
+entry-some version order size some e = go (is_old version) (e.extent == 0) (listed-length version order size e)
+  where
+    go : (old none : Bool) → length (listed_bytes version order size e) ≡ (if old then (size + size) + held_length version e.holds else (if none then 1 else 1 + (size + (length (uleb_bytes e.extent) + held_length version e.holds)))) → 0 < length (listed_bytes version order size e)
+    go true none is = omega (arith, some, is)
+    go false true is = omega (arith, is)
+    go false false is = omega (arith, is)
+
+contribution-none : (version : ℕ) (order : Endian) (size place : ℕ) → 0 < size → (es : List ListEntry) → contribution_bytes version order size es ≡ [] → contribution_relocations version order size place es ≡ []
+contribution-none version order size place some [] e = refl
+contribution-none version order size place some (x ∷ es) e =
+    absurd (omega (arith, ap length e, lists-within version order size (x ∷ es), length-append (listed_bytes version order size x) (list_bytes version order size es), entry-some version order size some x))
+
+pub lists-none : (kind : AttributeValue → List ListEntry) (order : Endian) (size place : ℕ) → 0 < size → (us : List OrderedUnit) → flat_map (unit_lists_bytes kind order size) us ≡ [] → at_places (unit_lists_bytes kind order size) (unit_lists_relocations kind order size) place us ≡ []
+lists-none kind order size place some [] e = refl
+lists-none kind order size place some (u ∷ us) e =
+    let both = none-both (unit_lists_bytes kind order size u) (flat_map (unit_lists_bytes kind order size) us) e in
+    let here = contribution-none u.version order size place some (lists_of_entries kind u.entries) both.0 in
+    let others = lists-none kind order size (place + length (unit_lists_bytes kind order size u)) some us both.1 in
+    rw (here) others
+  where
+    none-both : (xs ys : List ℕ) → xs ++ ys ≡ [] → (xs ≡ []) × (ys ≡ [])
+    none-both [] ys e = (refl, e)
+    none-both (x ∷ xs) ys e = absurd (cc)
 
 -- how long they are
 pub part-short : (order : Endian) (name : SectionName) (x : List ℕ) (q : List OutputRelocation) (rest : List OutputSection) → All (IsSound order) (section_unless_empty name x q ++ rest) → (length x ≤ most_bytes) × All (IsSound order) rest
@@ -534,33 +558,44 @@ pub size-known : (us : List OrderedUnit) → All FitsOrdered us → (size_of us 
 size-known [] fits = inr refl
 size-known (u ∷ us) fits = (All-head FitsOrdered u us fits).size
 
+pub version-known : (us : List OrderedUnit) → All FitsOrdered us → IsWrittenVersion (version_of us)
+version-known [] fits = inl refl
+version-known (u ∷ us) fits = (All-head FitsOrdered u us fits).version
+
 pub positive : (size : ℕ) → (size ≡ 4) ⊎ (size ≡ 8) → (0 < size) × (size < 2 ^ 63)
 positive size (inl e) = (omega (arith, e), omega (arith, e))
 positive size (inr e) = (omega (arith, e), omega (arith, e))
 
 -- What is known of the sections of given units, which are spelled within the size of sections.
 pub record AreSpelled (order : Endian) (texts : List (List ℕ)) (us : List OrderedUnit) : Type 0 where
+  pub versions : All (λ u. u.version ≡ version_of us) us
+  pub written : IsWrittenVersion (version_of us)
   pub sized : All (λ u. u.address_size ≡ size_of us) us
   pub known : (size_of us ≡ 4) ⊎ (size_of us ≡ 8)
-  pub holds : Holds order (abbrev_bytes order (all_places order texts us) us) (all_info_bytes order (all_places order texts us) us) (all_lines_bytes order us) (all_lists_bytes ranges_in order us) (all_lists_bytes locations_in order us) (strings_bytes texts us) (info_relocations order (size_of us) 0 (units_placed order (all_places order texts us) us)) (lines_relocations order (size_of us) 0 (written_tables us)) (all_lists_relocations ranges_in order us) (all_lists_relocations locations_in order us) (output_sections order (spelled_sections order texts us))
+  pub holds : Holds (version_of us) order (abbrev_bytes order (all_places order texts us) us) (all_info_bytes order (all_places order texts us) us) (all_lines_bytes order (all_places order texts us) us) (names_bytes (all_places order texts us)) (all_lists_bytes ranges_in order us) (all_lists_bytes locations_in order us) (strings_bytes texts us) (info_relocations order (size_of us) 0 (units_placed order (all_places order texts us) us)) (lines_relocations order (size_of us) 0 (written_tables (all_places order texts us) us)) (all_lists_relocations ranges_in order us) (all_lists_relocations locations_in order us) (output_sections order (spelled_sections order texts us))
+  pub ranges_short : length (all_lists_bytes ranges_in order us) ≤ most_bytes
+  pub locations_short : length (all_lists_bytes locations_in order us) ≤ most_bytes
   pub units_fit : All (FitsUnit order (size_of us)) (units_placed order (all_places order texts us) us)
-  pub tables_fit : All (FitsTable order (size_of us)) (written_tables us)
+  pub tables_fit : All (FitsTable order (size_of us)) (written_tables (all_places order texts us) us)
 
-pub are-spelled : (order : Endian) (texts : List (List ℕ)) (us : List OrderedUnit) → AreWritable us → All FitsOrdered us → All (λ u. FitsLines u.lines) us → All (IsSound order) (spelled_sections order texts us) → AreSpelled order texts us
-are-spelled order texts us writable fits lines sound =
+pub are-spelled : (order : Endian) (texts : List (List ℕ)) (us : List OrderedUnit) → AreWritable us → AreTexts texts → All FitsOrdered us → All (λ u. FitsLines u.lines) us → All (IsSound order) (spelled_sections order texts us) → AreSpelled order texts us
+are-spelled order texts us writable table fits lines sound =
     let size = size_of us in
+    let version = version_of us in
     let units = all_places order texts us in
     let ws = units_placed order units us in
-    let ts = written_tables us in
+    let ts = written_tables units us in
     let q = info_relocations order size 0 ws in
     let r = lines_relocations order size 0 ts in
-    let sized : All (λ u. u.address_size ≡ size) us = All-weaker (IsWritable size) (λ u. u.address_size ≡ size) (λ u h. h.size) us writable in
+    let sized : All (λ u. u.address_size ≡ size) us = All-weaker (IsWritable version size) (λ u. u.address_size ≡ size) (λ u h. h.size) us writable in
+    let versions : All (λ u. u.version ≡ version) us = All-weaker (IsWritable version size) (λ u. u.version ≡ version) (λ u h. h.version) us writable in
     let tables_short = part-short order Abbrev (abbrev_bytes order units us) [] _ sound in
     let info_short = part-short order Info (all_info_bytes order units us) q _ tables_short.1 in
     let P : List OutputSection → Type 0 = λ xs. All (IsSound order) xs in
-    let lines_short = part-short order Line (all_lines_bytes order us) r _ info_short.1 in
-    let ranges_short = part-short order Ranges (all_lists_bytes ranges_in order us) (all_lists_relocations ranges_in order us) _ lines_short.1 in
-    let locations_short = part-short order Loc (all_lists_bytes locations_in order us) (all_lists_relocations locations_in order us) _ ranges_short.1 in
+    let lines_short = part-short order Line (all_lines_bytes order units us) r _ info_short.1 in
+    let names_short = part-short order LineStr (names_bytes units) [] _ lines_short.1 in
+    let ranges_short = part-short order (section_of_ranges version) (all_lists_bytes ranges_in order us) (all_lists_relocations ranges_in order us) _ names_short.1 in
+    let locations_short = part-short order (section_of_locations version) (all_lists_bytes locations_in order us) (all_lists_relocations locations_in order us) _ ranges_short.1 in
     let strings_short = part-short order Str (strings_bytes texts us) [] [] (subst P (sym (append-nil _)) locations_short.1) in
     let w = strings_short.0 in
     let a = tables_short.0 in
@@ -569,15 +604,33 @@ are-spelled order texts us writable fits lines sound =
     let v = ranges_short.0 in
     let k = locations_short.0 in
     let known = size-known us fits in
+    let written = version-known us fits in
     let near : (unit id : ℕ) → offset_in_section units.units unit id ≤ most_bytes = λ unit id. omega (arith, i, places-short order size 0 us unit id, info-length order size units 0 0 no_lists us) in
     record {
+      versions = versions;
+      written = written;
       sized = sized;
       known = known;
-      holds = sections-hold order (abbrev_bytes order units us) (all_info_bytes order units us) (all_lines_bytes order us) (all_lists_bytes ranges_in order us) (all_lists_bytes locations_in order us) (strings_bytes texts us) q r (all_lists_relocations ranges_in order us) (all_lists_relocations locations_in order us)
-          (info-none order size ws) (lines-none order size ts) (lists-none order size (positive size known).0 (lists_of_units ranges_in us)) (lists-none order size (positive size known).0 (lists_of_units locations_in us));
+      holds = sections-hold order (abbrev_bytes order units us) (all_info_bytes order units us) (all_lines_bytes order units us) (names_bytes units) (all_lists_bytes ranges_in order us) (all_lists_bytes locations_in order us) (strings_bytes texts us) q r (all_lists_relocations ranges_in order us) (all_lists_relocations locations_in order us)
+          (info-none order size ws) (lines-none order size ts) (lists-none ranges_in order size 0 (positive size known).0 us) (lists-none locations_in order size 0 (positive size known).0 us) version written;
+      ranges_short = v;
+      locations_short = k;
       units_fit = units-fit order size 0 0 no_lists units us sized fits near (λ id. omega (arith, w, offset-bound texts us id)) (omega (arith, a)) (omega (arith, l)) (record { ranges = omega (arith, v); locations = omega (arith, k) }) i;
-      tables_fit = tables-fit order size us sized fits lines l;
+      tables_fit = tables-fit order size units us known sized fits lines (names-there texts us written versions table lines names_short.0) l;
     }
+
+-- Where the lists of units stand.
+pub ranges-along : (order : Endian) (texts : List (List ℕ)) (us : List OrderedUnit) → AreSpelled order texts us → All FitsOrdered us
+    → StandAlong (λ (u : OrderedUnit). u.version) (λ u. lists_of_entries ranges_in u.entries) (output_sections order (spelled_sections order texts us)) (size_of us) (section_of_ranges (version_of us)) 0 us
+ranges-along order texts us spelled fits =
+    units-stand (λ (u : OrderedUnit). u.version) (λ u. lists_of_entries ranges_in u.entries) (output_sections order (spelled_sections order texts us)) (size_of us) (section_of_ranges (version_of us)) us (positive (size_of us) spelled.known).0 (spelled.holds).ranges_are (spelled.holds).ranges_relocations_are
+    (ranges-short (λ u. u.version) us fits) (omega (arith, spelled.ranges_short))
+
+pub locations-along : (order : Endian) (texts : List (List ℕ)) (us : List OrderedUnit) → AreSpelled order texts us → AreShortUnits us
+    → StandAlong (λ (u : OrderedUnit). u.version) (λ u. lists_of_entries locations_in u.entries) (output_sections order (spelled_sections order texts us)) (size_of us) (section_of_locations (version_of us)) 0 us
+locations-along order texts us spelled short =
+    units-stand (λ (u : OrderedUnit). u.version) (λ u. lists_of_entries locations_in u.entries) (output_sections order (spelled_sections order texts us)) (size_of us) (section_of_locations (version_of us)) us (positive (size_of us) spelled.known).0 (spelled.holds).locations_are (spelled.holds).locations_relocations_are
+    short (omega (arith, spelled.locations_short))
 
 -- All units that are read.
 pub units-read-back : (order : Endian) (texts : List (List ℕ)) (us : List OrderedUnit) → AreSpelled order texts us → units (output_sections order (spelled_sections order texts us)) ≡ record { items = read_units order (size_of us) 0 (units_placed order (all_places order texts us) us); fault = None }
@@ -587,19 +640,25 @@ units-read-back order texts us spelled =
     let holds = spelled.holds in
     units-read (output_sections order (spelled_sections order texts us)) size ws spelled.known spelled.units_fit (tables-from order size (all_places order texts us) us 0 0 no_lists) holds.abbrev_is holds.info_is (holds.info_relocations_are ∙ info-functions order size 0 ws)
 
--- Given units that are spelled within the size of sections are read back.
-pub reads-back : (order : Endian) (texts : List (List ℕ)) (us : List OrderedUnit) → AreWritable us → All FitsOrdered us → All (λ u. FitsLines u.lines) us → All (IsSound order) (spelled_sections order texts us) → ReadsBack order us (spelled_sections order texts us)
-reads-back order texts us writable fits lines sound =
+-- All line tables that are read.
+pub tables-read-back : (order : Endian) (texts : List (List ℕ)) (us : List OrderedUnit) → AreSpelled order texts us → All (IsReadAt (output_sections order (spelled_sections order texts us)) (size_of us)) (placed_tables order (size_of us) 0 (written_tables (all_places order texts us) us))
+tables-read-back order texts us spelled =
     let size = size_of us in
     let units = all_places order texts us in
-    let ts = written_tables us in
-    let s = output_sections order (spelled_sections order texts us) in
-    let spelled = are-spelled order texts us writable fits lines sound in
+    let ts = written_tables units us in
     let holds = spelled.holds in
     let some = positive size spelled.known in
-    let table_facts = lines-read s size ts some.0 some.1 spelled.tables_fit holds.line_is (holds.line_relocations_are ∙ lines-functions order size 0 ts) in
+    lines-read (output_sections order (spelled_sections order texts us)) size units.names ts some.0 some.1 spelled.tables_fit holds.names_are (tables-texts units us) holds.line_is (holds.line_relocations_are ∙ lines-functions order size 0 ts)
+
+-- Given units that are spelled within the size of sections are read back.
+pub reads-back : (order : Endian) (texts : List (List ℕ)) (us : List OrderedUnit) → AreWritable us → AreTexts texts → All FitsOrdered us → All (λ u. FitsLines u.lines) us → All (IsSound order) (spelled_sections order texts us) → ReadsBack order us (spelled_sections order texts us)
+reads-back order texts us writable table fits lines sound =
+    let size = size_of us in
+    let units = all_places order texts us in
+    let s = output_sections order (spelled_sections order texts us) in
+    let spelled = are-spelled order texts us writable table fits lines sound in
     record {
       read = read_units order size 0 (units_placed order units us);
       units_read = units-read-back order texts us spelled;
-      each = units-each s size 0 0 0 no_lists units us writable fits lines table_facts;
+      each = units-each s size units (version_of us) 0 0 0 no_lists us writable fits lines spelled.tables_fit (tables-read-back order texts us spelled);
     }

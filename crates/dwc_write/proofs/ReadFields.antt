@@ -23,6 +23,8 @@ use Rattle.dwc_unit.specs.SpelledUnits.{Written, as_addr, as_data1, as_data2, as
 use Rattle.dwc_write.specs.SpelledSections.{WrittenUnit, placed_unit_bytes, info_bytes, unit_fields, info_fields, read_unit, read_units, FitsUnit}
 use Rattle.dwc_write.specs.SpelledRelocations.{value_relocations, entry_relocations, unit_relocations, info_relocations}
 use Rattle.dwc_section.proofs.ReadNumbers.{number_bytes-length}
+use Rattle.dwc_unit.specs.GivenUnits.{IsWrittenVersion}
+use Rattle.dwc_write.proofs.UnitHeaders.{body-grouped, fields-length, header_fields}
 use Rattle.dwc_unit.proofs.ReadParts.{Spells-uleb_bytes}
 use Rattle.dwc_unit.proofs.ReadValues.{value-reads, All-front, All-back}
 
@@ -48,9 +50,9 @@ stands-behind n bytes part rest h = sym (drop-drop (length part) n bytes) ∙ ap
 abbrev pub fields_of_written : UnitHeader → ℕ → WrittenAttribute → List Field
 fields_of_written h place a = field_of_value h place (written_value a.name a.value)
 
--- The field of a value of version 4 has the relocation that is spelled with it.
-abbrev pub IsRelatedValue : WrittenAttribute → Type 0
-IsRelatedValue a = (h : UnitHeader) → h.version ≡ 4 → (place : ℕ) → relocations_of_fields (fields_of_written h place a) ≡ value_relocations h.address_size place a.value
+-- The field of a value of a version has the relocation that is spelled with it.
+abbrev pub IsRelatedValue : ℕ → WrittenAttribute → Type 0
+IsRelatedValue version a = (h : UnitHeader) → h.version ≡ version → (place : ℕ) → relocations_of_fields (fields_of_written h place a) ≡ value_relocations h.address_size place a.value
 
 -- no form stands in front of a value
 form-given : (a : WrittenAttribute) (u : Unread) → form_code_at (spec_of a) u ≡ Ok (form_number a.value, u)
@@ -73,7 +75,11 @@ form-given a u = go a.value
     go (as_ref_addr n) = refl
     go (as_sec_offset section n) = refl
 
-module _ (s : Sections) (h : UnitHeader) (version : h.version ≡ 4) where
+-- the fields of an entry
+abbrev pub fields_of_shaped : Endian → UnitHeader → ℕ → Shaped → List Field
+fields_of_shaped order h place x = at_places (attribute_bytes order h.address_size) (fields_of_written h) (place + length (uleb_bytes x.entry.code)) x.entry.attributes
+
+module _ (s : Sections) (h : UnitHeader) (version : IsWrittenVersion h.version) where
   abbrev order : Endian
   order = s.order
 
@@ -94,12 +100,9 @@ module _ (s : Sections) (h : UnitHeader) (version : h.version ≡ 4) where
 
   -- ---- entries
 
-  abbrev pub fields_of_shaped : ℕ → Shaped → List Field
-  fields_of_shaped place x = at_places (attribute_bytes order size) (fields_of_written h) (place + length (uleb_bytes x.entry.code)) x.entry.attributes
-
   module _ (table : List Declaration) where
     entry-found : (place : ℕ) (x : Shaped) (rest : List ℕ) → FitsEntry table size x → All (IsHeld (s.relocations Info)) (entry_fields order size place x) → drop place (s.bytes Info) ≡ entry_bytes order size x ++ rest
-        → fields_of_entry s h table (read_entry place x) ≡ Ok (fields_of_shaped place x)
+        → fields_of_entry s h table (read_entry place x) ≡ Ok (fields_of_shaped order h place x)
     unfolding fields_of_entry
     entry-found place x rest fits held stands =
         let code = uleb_bytes x.entry.code in
@@ -115,7 +118,7 @@ module _ (s : Sections) (h : UnitHeader) (version : h.version ≡ 4) where
 
     entries-found : (xs : List Shaped) (place : ℕ) (rest : List ℕ) → All (FitsEntry table size) xs → All (IsHeld (s.relocations Info)) (at_places (entry_bytes order size) (entry_fields order size) place xs)
         → drop place (s.bytes Info) ≡ flat_map (entry_bytes order size) xs ++ rest
-        → flat_map (λ e. fields_read (fields_of_entry s h table e)) (at_places (entry_bytes order size) (λ p x. read_entry p x ∷ []) place xs) ≡ at_places (entry_bytes order size) fields_of_shaped place xs
+        → flat_map (λ e. fields_read (fields_of_entry s h table e)) (at_places (entry_bytes order size) (λ p x. read_entry p x ∷ []) place xs) ≡ at_places (entry_bytes order size) (fields_of_shaped order h) place xs
     entries-found [] place rest fits held stands = refl
     entries-found (x ∷ xs) place rest fits held stands =
         let bytes = entry_bytes order size x in
@@ -130,31 +133,28 @@ module _ (s : Sections) (h : UnitHeader) (version : h.version ≡ 4) where
 -- the fields of a unit at a place
 abbrev pub fields_of_spelled : Sections → ℕ → ℕ → WrittenUnit → List Field
 fields_of_spelled s size place u =
-    let h = read_header s.order size u.table_offset place u.entries in
-    field_of_table h ∷ at_places (entry_bytes s.order size) (fields_of_shaped s h refl) (place + header_length) (shaped u.entries)
+    let h = read_header u.version s.order size u.table_offset place u.entries in
+    field_of_table h ∷ at_places (entry_bytes s.order size) (fields_of_shaped s.order h) (place + header_length u.version) (shaped u.entries)
 
 module _ (s : Sections) (size : ℕ) where
   -- the entries stand behind the header
-  entries-stand : (place : ℕ) (u : WrittenUnit) (rest : List ℕ) → drop place (s.bytes Info) ≡ placed_unit_bytes s.order size u ++ rest → drop (place + header_length) (s.bytes Info) ≡ entries_bytes s.order size u.entries ++ rest
+  entries-stand : (place : ℕ) (u : WrittenUnit) (rest : List ℕ) → drop place (s.bytes Info) ≡ placed_unit_bytes s.order size u ++ rest → drop (place + header_length u.version) (s.bytes Info) ≡ entries_bytes s.order size u.entries ++ rest
   entries-stand place u rest stands =
-      let body = unit_body s.order size u.table_offset u.entries in
-      let length_of = number_bytes s.order 4 (length body) in
-      let version = number_bytes s.order 2 4 in
-      let table = number_bytes s.order 4 u.table_offset in
+      let length_of = number_bytes s.order 4 (length (unit_body u.version s.order size u.table_offset u.entries)) in
+      let fields = header_fields u.version s.order size u.table_offset in
       let entries = entries_bytes s.order size u.entries in
-      let parts = stands ∙ grouped length_of version table (size ∷ []) entries rest in
-      let at : length (length_of ++ (version ++ (table ++ size ∷ []))) ≡ header_length =
-      omega (arith, length-append length_of (version ++ (table ++ size ∷ [])), length-append version (table ++ size ∷ []), length-append table (size ∷ []), number_bytes-length s.order 4 (length body), number_bytes-length s.order 2 4, number_bytes-length s.order 4 u.table_offset) in
-      rw (at) at (stands-behind place (s.bytes Info) (length_of ++ (version ++ (table ++ size ∷ []))) (entries ++ rest) parts)
+      let parts = stands ∙ ap (λ body. (length_of ++ body) ++ rest) (sym (body-grouped u.version s.order size u.table_offset u.entries)) ∙ regrouped length_of fields entries rest in
+      let at : length (length_of ++ fields) ≡ header_length u.version = omega (arith, length-append length_of fields, number_bytes-length s.order 4 (length (unit_body u.version s.order size u.table_offset u.entries)), fields-length u.version s.order size u.table_offset) in
+      rw (at) at (stands-behind place (s.bytes Info) (length_of ++ fields) (entries ++ rest) parts)
     where
-      grouped : (a b c d e f : List ℕ) → (a ++ (b ++ (c ++ (d ++ e)))) ++ f ≡ (a ++ (b ++ (c ++ d))) ++ (e ++ f)
-      grouped a b c d e f = simp append_assoc
+      regrouped : (a b c d : List ℕ) → (a ++ (b ++ c)) ++ d ≡ (a ++ b) ++ (c ++ d)
+      regrouped a b c d = simp append_assoc
 
   unit-found : (place : ℕ) (u : WrittenUnit) (rest : List ℕ) → FitsUnit s.order size u → abbreviation_table s u.table_offset ≡ Ok u.table → All (IsHeld (s.relocations Info)) (unit_fields s.order size place u)
       → drop place (s.bytes Info) ≡ placed_unit_bytes s.order size u ++ rest → fields_of_unit s (read_unit s.order size place u) ≡ fields_of_spelled s size place u
   unit-found place u rest fits known held stands =
-      let h = read_header s.order size u.table_offset place u.entries in
-      rw (fields_of_unit, fields_of_entries, known) (ap (λ fs. field_of_table h ∷ fs) (entries-found s h refl u.table (shaped u.entries) (place + header_length) rest fits.entries held (entries-stand place u rest stands)))
+      let h = read_header u.version s.order size u.table_offset place u.entries in
+      rw (fields_of_unit, fields_of_entries, known) (ap (λ fs. field_of_table h ∷ fs) (entries-found s h fits.version u.table (shaped u.entries) (place + header_length u.version) rest fits.entries held (entries-stand place u rest stands)))
 
   units-found : (us : List WrittenUnit) (place : ℕ) (rest : List ℕ) → All (FitsUnit s.order size) us → All (λ u. abbreviation_table s u.table_offset ≡ Ok u.table) us → All (IsHeld (s.relocations Info)) (info_fields s.order size place us)
       → drop place (s.bytes Info) ≡ info_bytes s.order size us ++ rest
@@ -173,16 +173,16 @@ module _ (s : Sections) (size : ℕ) where
 
   -- a unit whose values have the relocations that are spelled with them
   abbrev pub IsRelatedUnit : WrittenUnit → Type 0
-  IsRelatedUnit u = All (λ x. All IsRelatedValue x.entry.attributes) (shaped u.entries)
+  IsRelatedUnit u = All (λ x. All (IsRelatedValue u.version) x.entry.attributes) (shaped u.entries)
 
   unit-related : (u : WrittenUnit) → IsRelatedUnit u → (place : ℕ) → relocations_of_fields (fields_of_spelled s size place u) ≡ unit_relocations s.order size place u
   unit-related u related place =
-      let h = read_header s.order size u.table_offset place u.entries in
+      let h = read_header u.version s.order size u.table_offset place u.entries in
       let V : WrittenAttribute → Type 0 = λ a. (p : ℕ) → relocations_of_fields (fields_of_written h p a) ≡ value_relocations size p a.value in
-      let X : Shaped → Type 0 = λ x. (p : ℕ) → relocations_of_fields (fields_of_shaped s h refl p x) ≡ entry_relocations s.order size p x in
-      let entry : (x : Shaped) → All IsRelatedValue x.entry.attributes → X x =
-      λ x values p. places-related (attribute_bytes s.order size) (fields_of_written h) (λ q a. value_relocations size q a.value) x.entry.attributes (p + length (uleb_bytes x.entry.code)) (All-weaker IsRelatedValue V (λ a r. r h refl) x.entry.attributes values) in
-      let entries = places-related (entry_bytes s.order size) (fields_of_shaped s h refl) (entry_relocations s.order size) (shaped u.entries) (place + header_length) (All-weaker (λ x. All IsRelatedValue x.entry.attributes) X entry (shaped u.entries) related) in
+      let X : Shaped → Type 0 = λ x. (p : ℕ) → relocations_of_fields (fields_of_shaped s.order h p x) ≡ entry_relocations s.order size p x in
+      let entry : (x : Shaped) → All (IsRelatedValue u.version) x.entry.attributes → X x =
+      λ x values p. places-related (attribute_bytes s.order size) (fields_of_written h) (λ q a. value_relocations size q a.value) x.entry.attributes (p + length (uleb_bytes x.entry.code)) (All-weaker (IsRelatedValue u.version) V (λ a r. r h refl) x.entry.attributes values) in
+      let entries = places-related (entry_bytes s.order size) (fields_of_shaped s.order h) (entry_relocations s.order size) (shaped u.entries) (place + header_length u.version) (All-weaker (λ x. All (IsRelatedValue u.version) x.entry.attributes) X entry (shaped u.entries) related) in
       rw (entries) refl
 
   -- The relocations of units that are spelled are those of their fields.

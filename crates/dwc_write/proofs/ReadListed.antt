@@ -1,4 +1,5 @@
--- Entries of lists that are spelled are read again, one behind another up to their end: `list-walked`, for the readers of both kinds.
+-- Entries of lists that are spelled are read again, one behind another up to their end: `list-walked`, for the readers of both kinds. Here are
+-- those up to version 4; those of version 5 are in `ReadCounted`.
 use Rattle.std.proofs.Common.{◌≡◌, ℕ, zero, suc, ◌+◌, ◌^◌, ◌<◌, refl, sym, ap, subst, ◌∙◌, arith, lit<, List, [], ◌∷◌, ◌++◌, append_assoc, append-nil, length, length-drop, take, Option, Some, None, Ok, Err, Bool, true, false, ltb}
 use Rattle.std.specs.Prelude.{if◌then◌else◌, option_map}
 use Rattle.std.specs.List.{All}
@@ -30,7 +31,7 @@ use Rattle.dwc_unit.proofs.ReadValues.{address-reads, All-back, All-front}
 
 -- ---- each entry takes a byte at least
 
-address-leaves : (relocations : List Relocation) (size : ℕ) (u : Unread) → 0 < size → Leaves (address_at relocations size u) (length u.left)
+pub address-leaves : (relocations : List Relocation) (size : ℕ) (u : Unread) → 0 < size → Leaves (address_at relocations size u) (length u.left)
 unfolding address_at
 address-leaves relocations size u some = Leaves-bind _ _ _ (number_at-leaves size u some) (λ spelled. Leaves-same _ _)
 
@@ -40,7 +41,7 @@ pair-leaves relocations size u some =
     Leaves-bind _ _ _ (address-leaves relocations size u some) (λ begin. Leaves-bind _ _ _ (Leaves-more _ _ (address-leaves relocations size begin.1 some)) (λ end. Leaves-same _ _))
 
 -- bytes of any number, also of none
-bytes-leaves : (size : ℕ) (u : Unread) → Leaves (bytes_at size u) (suc (length u.left))
+pub bytes-leaves : (size : ℕ) (u : Unread) → Leaves (bytes_at size u) (suc (length u.left))
 unfolding bytes_at
 bytes-leaves size u = record { fewer = go (ltb (length u.left) size) }
   where
@@ -77,7 +78,7 @@ location-leaves relocations size u some = Leaves-bind _ _ _ (pair-leaves relocat
 abbrev pub raw_pair : ListEntry → RawEntry
 raw_pair e = pair e.begin (end_of e)
 
-symbol-fits : (size : ℕ) (a : Address) → is_symbol a ≡ true → FitsAddress size a
+pub symbol-fits : (size : ℕ) (a : Address) → is_symbol a ≡ true → FitsAddress size a
 symbol-fits size (Constant n) symbol = absurd (cc)
 symbol-fits size (Symbol f addend) symbol = tt
 
@@ -100,11 +101,11 @@ begin_field order size place e = record { offset = place; size = size; address =
 abbrev end_field : Endian → ℕ → ℕ → ListEntry → AddressField
 end_field order size place e = record { offset = place + length (address_bytes order size e.begin); size = size; address = end_of e }
 
-both-held : (order : Endian) (rs : List Relocation) (place size : ℕ) (e : ListEntry) → All (IsHeld rs) (listed_fields order size place e) → IsHeld rs (begin_field order size place e) × IsHeld rs (end_field order size place e)
+both-held : (order : Endian) (rs : List Relocation) (place size : ℕ) (e : ListEntry) → All (IsHeld rs) (listed_fields 4 order size place e) → IsHeld rs (begin_field order size place e) × IsHeld rs (end_field order size place e)
 both-held order rs place size e held =
     (All-head (IsHeld rs) (begin_field order size place e) (end_field order size place e ∷ []) held, All-head (IsHeld rs) (end_field order size place e) [] (All-tail (IsHeld rs) (begin_field order size place e) (end_field order size place e ∷ []) held))
 
-ends-read : (order : Endian) (rs : List Relocation) (place size : ℕ) (e : ListEntry) → is_symbol e.begin ≡ true → All (IsHeld rs) (listed_fields order size place e) → SpellsAt order place (pair_at rs size) (ends_bytes order size e) (Some (raw_pair e))
+ends-read : (order : Endian) (rs : List Relocation) (place size : ℕ) (e : ListEntry) → is_symbol e.begin ≡ true → All (IsHeld rs) (listed_fields 4 order size place e) → SpellsAt order place (pair_at rs size) (ends_bytes order size e) (Some (raw_pair e))
 unfolding pair_at
 ends-read order rs place size e symbol held =
     let held_both = both-held order rs place size e held in
@@ -115,28 +116,28 @@ pub zero-small : (size : ℕ) → 0 < 256 ^ size
 zero-small zero = omega arith
 zero-small (suc n) = let h = zero-small n in omega (arith, h)
 
-zeros-read : (order : Endian) (rs : List Relocation) (place size : ℕ) → All (IsHeld rs) (listed_fields order size place list_end) → SpellsAt order place (pair_at rs size) (ends_bytes order size list_end) None
+zeros-read : (order : Endian) (rs : List Relocation) (place size : ℕ) → All (IsHeld rs) (listed_fields 4 order size place list_end) → SpellsAt order place (pair_at rs size) (ends_bytes order size list_end) None
 unfolding pair_at
 zeros-read order rs place size held =
     let held_both = both-held order rs place size list_end held in
     behind _ (address-reads order rs place size (Constant 0) (zero-small size) held_both.0) (last _ (address-reads order rs _ size (Constant 0) (zero-small size) held_both.1) (λ u. refl))
 
 -- nothing stands behind ends alone
-ends-alone : (order : Endian) (size : ℕ) (e : ListEntry) → e.holds ≡ None → ends_bytes order size e ≡ listed_bytes order size e
+ends-alone : (order : Endian) (size : ℕ) (e : ListEntry) → e.holds ≡ None → ends_bytes order size e ≡ listed_bytes 4 order size e
 ends-alone order size e none = rw (none) (ap (λ bs. address_bytes order size e.begin ++ bs) (sym (append-nil (address_bytes order size (end_of e)))))
 
 -- an entry of a range list
-pub range-reads : (order : Endian) (rs : List Relocation) (place size : ℕ) (e : ListEntry) → is_symbol e.begin ≡ true → e.holds ≡ None → All (IsHeld rs) (listed_fields order size place e) → SpellsAt order place (pair_at rs size) (listed_bytes order size e) (Some (raw_pair e))
+pub range-reads : (order : Endian) (rs : List Relocation) (place size : ℕ) (e : ListEntry) → is_symbol e.begin ≡ true → e.holds ≡ None → All (IsHeld rs) (listed_fields 4 order size place e) → SpellsAt order place (pair_at rs size) (listed_bytes 4 order size e) (Some (raw_pair e))
 range-reads order rs place size e symbol none held = subst (λ bs. SpellsAt order place (pair_at rs size) bs (Some (raw_pair e))) (ends-alone order size e none) (ends-read order rs place size e symbol held)
 
-pub range-end : (order : Endian) (rs : List Relocation) (place size : ℕ) → All (IsHeld rs) (listed_fields order size place list_end) → SpellsAt order place (pair_at rs size) (listed_bytes order size list_end) None
+pub range-end : (order : Endian) (rs : List Relocation) (place size : ℕ) → All (IsHeld rs) (listed_fields 4 order size place list_end) → SpellsAt order place (pair_at rs size) (listed_bytes 4 order size list_end) None
 range-end order rs place size held = subst (λ bs. SpellsAt order place (pair_at rs size) bs None) (ends-alone order size list_end refl) (zeros-read order rs place size held)
 
 -- an expression behind its length
 abbrev placed_at : Endian → ℕ → List ℕ → PlacedExpression
 placed_at order place bytes = record { section = Loc; place = place + length (number_bytes order 2 (length bytes)); bytes = bytes }
 
-expression-reads : (order : Endian) (place : ℕ) (bytes : List ℕ) → length bytes < 2 ^ 16 → SpellsAt order place (placed_expression_at Loc) (held_bytes order (Some bytes)) (placed_at order place bytes)
+expression-reads : (order : Endian) (place : ℕ) (bytes : List ℕ) → length bytes < 2 ^ 16 → SpellsAt order place (placed_expression_at Loc) (held_bytes 4 order (Some bytes)) (placed_at order place bytes)
 unfolding placed_expression_at sized_number_at
 expression-reads order place bytes short =
     behind _ (here place (Spells-number_bytes order 2 (length bytes) short)) (record { reads = λ rest. rw ((Spells-bytes order bytes).reads) refl })
@@ -145,34 +146,34 @@ expression-reads order place bytes short =
 abbrev pub raw_location : Endian → ℕ → ℕ → ListEntry → RawLocation
 raw_location order size place e = record { says = raw_pair e; holds = option_map (placed_at order (place + length (ends_bytes order size e))) e.holds }
 
-behind-reads : (order : Endian) (place : ℕ) (a b : Address) (bytes : List ℕ) → length bytes < 2 ^ 16 → SpellsAt order place (location_behind Loc (pair a b)) (held_bytes order (Some bytes)) (Some (record { says = pair a b; holds = Some (placed_at order place bytes) }))
+behind-reads : (order : Endian) (place : ℕ) (a b : Address) (bytes : List ℕ) → length bytes < 2 ^ 16 → SpellsAt order place (location_behind Loc (pair a b)) (held_bytes 4 order (Some bytes)) (Some (record { says = pair a b; holds = Some (placed_at order place bytes) }))
 unfolding location_behind
 behind-reads order place a b bytes short = last _ (expression-reads order place bytes short) (λ u. refl)
 
-pub location-reads : (order : Endian) (rs : List Relocation) (place size : ℕ) (e : ListEntry) (bytes : List ℕ) → is_symbol e.begin ≡ true → e.holds ≡ Some bytes → length bytes < 2 ^ 16 → All (IsHeld rs) (listed_fields order size place e)
-    → SpellsAt order place (location_at rs size) (listed_bytes order size e) (Some (raw_location order size place e))
+pub location-reads : (order : Endian) (rs : List Relocation) (place size : ℕ) (e : ListEntry) (bytes : List ℕ) → is_symbol e.begin ≡ true → e.holds ≡ Some bytes → length bytes < 2 ^ 16 → All (IsHeld rs) (listed_fields 4 order size place e)
+    → SpellsAt order place (location_at rs size) (listed_bytes 4 order size e) (Some (raw_location order size place e))
 location-reads order rs place size e bytes symbol holds short held =
     let begin = address_bytes order size e.begin in
     let end = address_bytes order size (end_of e) in
-    let together : ends_bytes order size e ++ held_bytes order (Some bytes) ≡ listed_bytes order size e = append_assoc begin end (held_bytes order (Some bytes)) ∙ ap (λ o. begin ++ (end ++ held_bytes order o)) (sym holds) in
+    let together : ends_bytes order size e ++ held_bytes 4 order (Some bytes) ≡ listed_bytes 4 order size e = append_assoc begin end (held_bytes 4 order (Some bytes)) ∙ ap (λ o. begin ++ (end ++ held_bytes 4 order o)) (sym holds) in
     let is : RawLocation = record { says = raw_pair e; holds = Some (placed_at order (place + length (ends_bytes order size e)) bytes) } in
     let same : Some is ≡ Some (raw_location order size place e) = ap (λ o. Some (record { says = raw_pair e; holds = option_map (placed_at order (place + length (ends_bytes order size e))) o })) (sym holds) in
-    subst (λ x. SpellsAt order place (location_at rs size) (listed_bytes order size e) x) same
+    subst (λ x. SpellsAt order place (location_at rs size) (listed_bytes 4 order size e) x) same
     (subst (λ bs. SpellsAt order place (location_at rs size) bs (Some is)) together
     (behind _ (ends-read order rs place size e symbol held) (behind-reads order (place + length (ends_bytes order size e)) e.begin (end_of e) bytes short)))
 
-pub location-end : (order : Endian) (rs : List Relocation) (place size : ℕ) → All (IsHeld rs) (listed_fields order size place list_end) → SpellsAt order place (location_at rs size) (listed_bytes order size list_end) None
+pub location-end : (order : Endian) (rs : List Relocation) (place size : ℕ) → All (IsHeld rs) (listed_fields 4 order size place list_end) → SpellsAt order place (location_at rs size) (listed_bytes 4 order size list_end) None
 location-end order rs place size held = last _ (range-end order rs place size held) (λ u. refl)
 
 -- ---- entries one behind another
 
 -- A reader of entries takes a byte at least, reads an entry of which P holds as what a view of it is at its place, and finds the end.
-pub record ReadsEntries {A : Type 0} (relocations : List Relocation) (order : Endian) (size : ℕ) (reader : Unread → Read (Option A)) (P : ListEntry → Type 0) (view : ℕ → ListEntry → A) : Type 0 where
+pub record ReadsEntries {A : Type 0} (version : ℕ) (relocations : List Relocation) (order : Endian) (size : ℕ) (reader : Unread → Read (Option A)) (P : ListEntry → Type 0) (view : ℕ → ListEntry → A) : Type 0 where
   pub leaves : (u : Unread) → Leaves (reader u) (length u.left)
-  pub each : (place : ℕ) (e : ListEntry) → P e → All (IsHeld relocations) (listed_fields order size place e) → SpellsAt order place reader (listed_bytes order size e) (Some (view place e))
-  pub end : (place : ℕ) → All (IsHeld relocations) (listed_fields order size place list_end) → SpellsAt order place reader (listed_bytes order size list_end) None
+  pub each : (place : ℕ) (e : ListEntry) → P e → All (IsHeld relocations) (listed_fields version order size place e) → SpellsAt order place reader (listed_bytes version order size e) (Some (view place e))
+  pub end : (place : ℕ) → All (IsHeld relocations) (listed_fields version order size place list_end) → SpellsAt order place reader (listed_bytes version order size list_end) None
 
-module _ {A : Type 0} (relocations : List Relocation) (order : Endian) (size : ℕ) (reader : Unread → Read (Option A)) (P : ListEntry → Type 0) (view : ℕ → ListEntry → A) (reads : ReadsEntries relocations order size reader P view) (told : Flaw → Fault) where
+module _ {A : Type 0} (version : ℕ) (relocations : List Relocation) (order : Endian) (size : ℕ) (reader : Unread → Read (Option A)) (P : ListEntry → Type 0) (view : ℕ → ListEntry → A) (reads : ReadsEntries version relocations order size reader P view) (told : Flaw → Fault) where
   abbrev next_listed : Unread → Next Unread Fault A
   next_listed u = next_item reader told u
 
@@ -188,16 +189,16 @@ module _ {A : Type 0} (relocations : List Relocation) (order : Endian) (size : �
       go (Ok x) fewer g = read x.0 x.1 fewer g
 
   -- the entries of a list, whatever follows it
-  pub list-walked : (place : ℕ) (es : List ListEntry) (rest : List ℕ) → All P es → All (IsHeld relocations) (list_fields order size place (ended es))
-      → walk unread_length next_listed (unread_at order place (list_bytes order size (ended es) ++ rest)) ≡ record { items = at_places (listed_bytes order size) (λ p e. view p e ∷ []) place es; fault = None }
+  pub list-walked : (place : ℕ) (es : List ListEntry) (rest : List ℕ) → All P es → All (IsHeld relocations) (list_fields version order size place (ended es))
+      → walk unread_length next_listed (unread_at order place (list_bytes version order size (ended es) ++ rest)) ≡ record { items = at_places (listed_bytes version order size) (λ p e. view p e ∷ []) place es; fault = None }
   list-walked place [] rest all held =
-      let read = (reads.end place (All-front (IsHeld relocations) (listed_fields order size place list_end) [] held)).reads ([] ++ rest) in
-      let bytes = append_assoc (listed_bytes order size list_end) [] rest in
+      let read = (reads.end place (All-front (IsHeld relocations) (listed_fields version order size place list_end) [] held)).reads ([] ++ rest) in
+      let bytes = append_assoc (listed_bytes version order size list_end) [] rest in
       rw (bytes) (walk-end unread_length next_listed next-shrinks _ (rw (read, next_listed, next_item) refl))
   list-walked place (e ∷ es) rest all held =
-      let next = place + length (listed_bytes order size e) in
-      let bytes = append_assoc (listed_bytes order size e) (list_bytes order size (ended es)) rest in
-      let read = (reads.each place e (All-head P e es all) (All-front (IsHeld relocations) (listed_fields order size place e) (list_fields order size next (ended es)) held)).reads (list_bytes order size (ended es) ++ rest) in
+      let next = place + length (listed_bytes version order size e) in
+      let bytes = append_assoc (listed_bytes version order size e) (list_bytes version order size (ended es)) rest in
+      let read = (reads.each place e (All-head P e es all) (All-front (IsHeld relocations) (listed_fields version order size place e) (list_fields version order size next (ended es)) held)).reads (list_bytes version order size (ended es) ++ rest) in
       rw (bytes)
-      (walk-item unread_length next_listed next-shrinks _ (unread_at order next (list_bytes order size (ended es) ++ rest)) (view place e) (rw (read, next_listed, next_item) refl)
-      ∙ ap (with_first (view place e)) (list-walked next es rest (All-tail P e es all) (All-back (IsHeld relocations) (listed_fields order size place e) (list_fields order size next (ended es)) held)))
+      (walk-item unread_length next_listed next-shrinks _ (unread_at order next (list_bytes version order size (ended es) ++ rest)) (view place e) (rw (read, next_listed, next_item) refl)
+      ∙ ap (with_first (view place e)) (list-walked next es rest (All-tail P e es all) (All-back (IsHeld relocations) (listed_fields version order size place e) (list_fields version order size next (ended es)) held)))

@@ -1,12 +1,11 @@
--- Range lists and location lists that are spelled are read again: their raw entries (`ranges-raw`, `locations-raw`), and what they give
--- (`ranges-read`, `locations-read`).
+-- Range lists and location lists up to version 4 that are spelled are read again: their raw entries (`ranges-raw`, `locations-raw`), and what
+-- they give (`ranges-read`, `locations-read`).
 use Rattle.std.proofs.Common.{◌≡◌, ℕ, ◌+◌, ◌<◌, refl, ap, ◌∙◌, arith, List, [], ◌∷◌, ◌++◌, length, drop, map, Option, Some, None, Ok, true, Bool, false}
 use Rattle.std.specs.Prelude.{pos, ◌+ℤ◌, int_lt, ◌==◌, ◌||◌, if◌then◌else◌, zip}
 use Rattle.std.specs.List.{All, filter_map}
 use Rattle.std.proofs.lemmas.Bool.{eq-eqb, eqb-true}
 use Rattle.std.proofs.lemmas.Int.{ints}
 use Rattle.std.proofs.lemmas.List.Elements.{All-head, All-tail, All-cons, All-nil}
-use Rattle.std.proofs.Math.Seq.{drop-append_seam}
 use Rattle.dwc_base.specs.declared.records.Address.{Address}
 use Rattle.dwc_base.specs.declared.records.Address.TheVariants.{Constant, Symbol}
 use Rattle.dwc_base.specs.declared.constants.TheConstants.{DW_AT_ranges, DW_AT_start_scope, DW_AT_stmt_list}
@@ -34,13 +33,13 @@ use Rattle.dwc_write.proofs.ReadListed.{ReadsEntries, list-walked, location-end,
 -- ---- what a list gives
 
 -- the interval of two addresses of one function
-interval-between : (a : Address) (n : ℕ) → is_symbol a ≡ true → 0 < n → interval_between a (address_behind a n) ≡ Some (record { begin = a; end = address_behind a n })
+pub interval-between : (a : Address) (n : ℕ) → is_symbol a ≡ true → 0 < n → interval_between a (address_behind a n) ≡ Some (record { begin = a; end = address_behind a n })
 interval-between (Constant m) n symbol some = absurd (cc)
 interval-between (Symbol f addend) n symbol some =
     let below : int_lt addend (addend +ℤ pos n) ≡ true = grind (arith, ints, some) in
     rw (eq-eqb f f refl, below) refl
 
-abbrev interval : ListEntry → Interval
+abbrev pub interval : ListEntry → Interval
 interval e = interval_of (e.begin, e.extent)
 
 -- what is asked of the interval of an entry
@@ -55,7 +54,7 @@ pair-given s told base e symbol some = go e.begin symbol (interval-between e.beg
     go (Constant m) symbol is = absurd (cc)
     go (Symbol f addend) symbol is = ap Ok is
 
-given-step : (s : ListSource) (told : Flaw → Fault) (base : Address) (e : RawEntry) (es : List RawEntry) (last : Option Fault) (i : Option Interval) → interval_given s told base e ≡ Ok i → base_behind s told base e ≡ Ok base → intervals_given s told base (e ∷ es) last ≡ with_first i (intervals_given s told base es last)
+pub given-step : (s : ListSource) (told : Flaw → Fault) (base : Address) (e : RawEntry) (es : List RawEntry) (last : Option Fault) (i : Option Interval) → interval_given s told base e ≡ Ok i → base_behind s told base e ≡ Ok base → intervals_given s told base (e ∷ es) last ≡ with_first i (intervals_given s told base es last)
 unfolding intervals_given
 given-step s told base e es last i given stays = rw (given, stays, intervals_given) refl
 
@@ -74,20 +73,14 @@ list-given s told base size (e ∷ es) fits =
 
 -- ---- lists of a unit of version 4, among others
 
-module _ (s : Sections) (h : UnitHeader) (version : h.version ≡ 4) (some : 0 < h.address_size) (front rest : List ℕ) where
+module _ (s : Sections) (h : UnitHeader) (version : h.version ≡ 4) (some : 0 < h.address_size) (start : ℕ) (rest : List ℕ) where
   abbrev size : ℕ
   size = h.address_size
-
-  abbrev bytes_of : List ListEntry → List ℕ
-  bytes_of es = list_bytes s.order size (ended es)
-
-  left-there : (bytes : List ℕ) (es : List ListEntry) → bytes ≡ front ++ (bytes_of es ++ rest) → drop (length front) bytes ≡ bytes_of es ++ rest
-  left-there bytes es there = ap (drop (length front)) there ∙ drop-append_seam front _
 
   -- ---- a range list
 
   abbrev pub ranges_here : ListPlace
-  ranges_here = record { section = Ranges; offset = length front }
+  ranges_here = record { section = Ranges; offset = start }
 
   -- what is asked of an entry of a range list
   record IsRange (e : ListEntry) : Type 0 where
@@ -102,30 +95,30 @@ module _ (s : Sections) (h : UnitHeader) (version : h.version ≡ 4) (some : 0 <
   interval-fits [] all = All-nil (FitsInterval size)
   interval-fits (e ∷ es) all = All-cons (FitsInterval size) e es (All-head IsRange e es all).fits (interval-fits es (All-tail IsRange e es all))
 
-  reads-ranges : ReadsEntries (s.relocations Ranges) s.order size (pair_at (s.relocations Ranges) size) IsRange (λ place e. raw_pair e)
+  reads-ranges : ReadsEntries 4 (s.relocations Ranges) s.order size (pair_at (s.relocations Ranges) size) IsRange (λ place e. raw_pair e)
   reads-ranges = record {
     leaves = λ u. pair-leaves (s.relocations Ranges) size u some;
     each = λ place e is held. range-reads s.order (s.relocations Ranges) place size e is.fits.symbol is.alone held;
     end = λ place held. range-end s.order (s.relocations Ranges) place size held;
   }
 
-  pairs-placed : (place : ℕ) (es : List ListEntry) → at_places (listed_bytes s.order size) (λ p e. raw_pair e ∷ []) place es ≡ map raw_pair es
+  pairs-placed : (place : ℕ) (es : List ListEntry) → at_places (listed_bytes 4 s.order size) (λ p e. raw_pair e ∷ []) place es ≡ map raw_pair es
   pairs-placed place [] = refl
-  pairs-placed place (e ∷ es) = ap (λ xs. raw_pair e ∷ xs) (pairs-placed (place + length (listed_bytes s.order size e)) es)
+  pairs-placed place (e ∷ es) = ap (λ xs. raw_pair e ∷ xs) (pairs-placed (place + length (listed_bytes 4 s.order size e)) es)
 
   -- entries without a fault
   abbrev whole_pairs : List RawEntry → Listing Fault RawEntry
   whole_pairs xs = record { items = xs; fault = None }
 
-  module _ (rs : List (Address × ℕ)) (bytes : s.bytes Ranges ≡ front ++ (list_bytes s.order h.address_size (ended (map range_entry rs)) ++ rest)) (fits : All (FitsRange h.address_size) rs) (held : All (IsHeld (s.relocations Ranges)) (list_fields s.order h.address_size (length front) (ended (map range_entry rs)))) where
+  module _ (rs : List (Address × ℕ)) (bytes : drop start (s.bytes Ranges) ≡ list_bytes 4 s.order h.address_size (ended (map range_entry rs)) ++ rest) (fits : All (FitsRange h.address_size) rs) (held : All (IsHeld (s.relocations Ranges)) (list_fields 4 s.order h.address_size start (ended (map range_entry rs)))) where
     pub ranges-raw : raw_ranges (list_source s h) ranges_here ≡ record { items = map raw_pair (map range_entry rs); fault = None }
     unfolding raw_ranges raw_entry_at list_source
     ranges-raw =
         let es = map range_entry rs in
         let next : Unread → Next Unread Fault RawEntry = next_item (pair_at (s.relocations Ranges) size) (list_fault RangeList ranges_here) in
-        ap (λ xs. walk unread_length next (unread_at s.order (length front) xs)) (left-there (s.bytes Ranges) es bytes)
-        ∙ list-walked (s.relocations Ranges) s.order size (pair_at (s.relocations Ranges) size) IsRange (λ place e. raw_pair e) reads-ranges (list_fault RangeList ranges_here) (length front) es rest (are-ranges rs fits) held
-        ∙ ap whole_pairs (pairs-placed (length front) es)
+        ap (λ xs. walk unread_length next (unread_at s.order start xs)) bytes
+        ∙ list-walked 4 (s.relocations Ranges) s.order size (pair_at (s.relocations Ranges) size) IsRange (λ place e. raw_pair e) reads-ranges (list_fault RangeList ranges_here) start es rest (are-ranges rs fits) held
+        ∙ ap whole_pairs (pairs-placed start es)
 
     given-all : (xs : List (Address × ℕ)) → filter_map (λ i. i) (map (λ e. Some (interval e)) (map range_entry xs)) ≡ map interval_of xs
     given-all [] = refl
@@ -137,32 +130,32 @@ module _ (s : Sections) (h : UnitHeader) (version : h.version ≡ 4) (some : 0 <
         let given = list-given (list_source s h) (list_fault RangeList ranges_here) (list_source s h).first_base size (map range_entry rs) (interval-fits (map range_entry rs) (are-ranges rs fits)) in
         rw (ranges-raw, given, given-all rs) refl
 
-    pub ranges-named : list_named (list_source s h) (range_reference (length front)) ≡ Some (Ok ranges_here)
+    pub ranges-named : list_named (list_source s h) (range_reference start) ≡ Some (Ok ranges_here)
     unfolding list_named list_source
     ranges-named = rw (version) refl
 
-    list-of_value : (offset : ℕ) → ranges_of_value (list_source s h) offset (range_reference (length front)) ≡ record { items = map interval_of rs; fault = None }
+    list-of_value : (offset : ℕ) → ranges_of_value (list_source s h) offset (range_reference start) ≡ record { items = map interval_of rs; fault = None }
     unfolding ranges_of_value
     list-of_value offset = ap (list_of_value RangeList offset (ranges_at (list_source s h))) ranges-named ∙ list-at
 
-    pub ranges-read : (e : Entry) → ranges_read s h e (range_reference (length front)) ≡ Ok (map interval_of rs)
+    pub ranges-read : (e : Entry) → ranges_read s h e (range_reference start) ≡ Ok (map interval_of rs)
     unfolding ranges_read
-    ranges-read e = ap (λ (l : Listing ListRefusal Interval). list_read (unreadable_list RangeList e (list_named (list_source s h) (range_reference (length front)))) l.items l.fault) (list-of_value e.offset)
+    ranges-read e = ap (λ (l : Listing ListRefusal Interval). list_read (unreadable_list RangeList e (list_named (list_source s h) (range_reference start))) l.items l.fault) (list-of_value e.offset)
 
   -- ---- a location list
 
   abbrev pub locations_here : ListPlace
-  locations_here = record { section = Loc; offset = length front }
+  locations_here = record { section = Loc; offset = start }
 
   -- what is asked of an entry of a location list
   record IsLocation (e : ListEntry) : Type 0 where
     fits : FitsInterval size e
     bytes : List ℕ
     holds : e.holds ≡ Some bytes
-    short : IsShort (Some bytes)
+    short : IsShort 4 (Some bytes)
 
   abbrev Shorts : ListEntry → Type 0
-  Shorts e = IsShort e.holds
+  Shorts e = IsShort 4 e.holds
 
   are-locations : (ls : List (Address × ℕ × Expression)) → All (FitsLocation size) ls → All Shorts (ended (map location_entry ls)) → All IsLocation (map location_entry ls)
   are-locations [] fits short = All-nil IsLocation
@@ -175,7 +168,7 @@ module _ (s : Sections) (h : UnitHeader) (version : h.version ≡ 4) (some : 0 <
   locations-fit [] all = All-nil (FitsInterval size)
   locations-fit (e ∷ es) all = All-cons (FitsInterval size) e es (All-head IsLocation e es all).fits (locations-fit es (All-tail IsLocation e es all))
 
-  reads-locations : ReadsEntries (s.relocations Loc) s.order size (location_at (s.relocations Loc) size) IsLocation (λ place e. raw_location s.order size place e)
+  reads-locations : ReadsEntries 4 (s.relocations Loc) s.order size (location_at (s.relocations Loc) size) IsLocation (λ place e. raw_location s.order size place e)
   reads-locations = record {
     leaves = λ u. location-leaves (s.relocations Loc) size u some;
     each = λ place e is held. location-reads s.order (s.relocations Loc) place size e is.bytes is.fits.symbol is.holds is.short held;
@@ -184,11 +177,11 @@ module _ (s : Sections) (h : UnitHeader) (version : h.version ≡ 4) (some : 0 <
 
   -- the entries of a location list that stands at a place
   abbrev pub raw_from : ℕ → List ListEntry → List RawLocation
-  raw_from place es = at_places (listed_bytes s.order size) (λ p e. raw_location s.order size p e ∷ []) place es
+  raw_from place es = at_places (listed_bytes 4 s.order size) (λ p e. raw_location s.order size p e ∷ []) place es
 
   says-are : (place : ℕ) (es : List ListEntry) → map (λ r. r.says) (raw_from place es) ≡ map raw_pair es
   says-are place [] = refl
-  says-are place (e ∷ es) = ap (λ xs. raw_pair e ∷ xs) (says-are (place + length (listed_bytes s.order size e)) es)
+  says-are place (e ∷ es) = ap (λ xs. raw_pair e ∷ xs) (says-are (place + length (listed_bytes 4 s.order size e)) es)
 
   -- what both parts of the entries give together
   abbrev given_both : ℕ → List ListEntry → List ListedLocation
@@ -196,38 +189,38 @@ module _ (s : Sections) (h : UnitHeader) (version : h.version ≡ 4) (some : 0 <
 
   both-given : (place : ℕ) (ls : List (Address × ℕ × Expression)) → map location_said (given_both place (map location_entry ls)) ≡ map location_of ls
   both-given place [] = refl
-  both-given place (l ∷ ls) = ap (λ xs. location_of l ∷ xs) (both-given (place + length (listed_bytes s.order size (location_entry l))) ls)
+  both-given place (l ∷ ls) = ap (λ xs. location_of l ∷ xs) (both-given (place + length (listed_bytes 4 s.order size (location_entry l))) ls)
 
-  module _ (ls : List (Address × ℕ × Expression)) (bytes : s.bytes Loc ≡ front ++ (list_bytes s.order h.address_size (ended (map location_entry ls)) ++ rest)) (fits : All (FitsLocation h.address_size) ls) (short : All (λ e. IsShort e.holds) (ended (map location_entry ls)))
-      (held : All (IsHeld (s.relocations Loc)) (list_fields s.order h.address_size (length front) (ended (map location_entry ls)))) where
-    pub locations-raw : raw_locations (list_source s h) locations_here ≡ record { items = raw_from (length front) (map location_entry ls); fault = None }
+  module _ (ls : List (Address × ℕ × Expression)) (bytes : drop start (s.bytes Loc) ≡ list_bytes 4 s.order h.address_size (ended (map location_entry ls)) ++ rest) (fits : All (FitsLocation h.address_size) ls) (short : All (λ e. IsShort 4 e.holds) (ended (map location_entry ls)))
+      (held : All (IsHeld (s.relocations Loc)) (list_fields 4 s.order h.address_size start (ended (map location_entry ls)))) where
+    pub locations-raw : raw_locations (list_source s h) locations_here ≡ record { items = raw_from start (map location_entry ls); fault = None }
     unfolding raw_locations raw_location_at raw_entry_at list_source
     locations-raw =
         let es = map location_entry ls in
         let next : Unread → Next Unread Fault RawLocation = next_item (location_at (s.relocations Loc) size) (list_fault LocationList locations_here) in
-        ap (λ xs. walk unread_length next (unread_at s.order (length front) xs)) (left-there (s.bytes Loc) es bytes)
-        ∙ list-walked (s.relocations Loc) s.order size (location_at (s.relocations Loc) size) IsLocation (λ place e. raw_location s.order size place e) reads-locations (list_fault LocationList locations_here) (length front) es rest (are-locations ls fits short) held
+        ap (λ xs. walk unread_length next (unread_at s.order start xs)) bytes
+        ∙ list-walked 4 (s.relocations Loc) s.order size (location_at (s.relocations Loc) size) IsLocation (λ place e. raw_location s.order size place e) reads-locations (list_fault LocationList locations_here) start es rest (are-locations ls fits short) held
 
-    located-at : locations_at (list_source s h) locations_here ≡ record { items = given_both (length front) (map location_entry ls); fault = None }
+    located-at : locations_at (list_source s h) locations_here ≡ record { items = given_both start (map location_entry ls); fault = None }
     unfolding locations_at
     located-at =
         let es = map location_entry ls in
         let given = list-given (list_source s h) (list_fault LocationList locations_here) (list_source s h).first_base size es (locations-fit es (are-locations ls fits short)) in
-        rw (locations-raw, says-are (length front) es, given) refl
+        rw (locations-raw, says-are start es, given) refl
 
-    pub locations-named : list_named (list_source s h) (location_reference (length front)) ≡ Some (Ok locations_here)
+    pub locations-named : list_named (list_source s h) (location_reference start) ≡ Some (Ok locations_here)
     unfolding list_named list_source
     locations-named = rw (version) refl
 
-    located-of_value : (offset : ℕ) → locations_of_value (list_source s h) offset (location_reference (length front)) ≡ record { items = given_both (length front) (map location_entry ls); fault = None }
+    located-of_value : (offset : ℕ) → locations_of_value (list_source s h) offset (location_reference start) ≡ record { items = given_both start (map location_entry ls); fault = None }
     unfolding locations_of_value
     located-of_value offset = ap (list_of_value LocationList offset (locations_at (list_source s h))) locations-named ∙ located-at
 
-    pub locations-read : (e : Entry) → locations_read s h e (location_reference (length front)) ≡ Ok (map location_of ls)
+    pub locations-read : (e : Entry) → locations_read s h e (location_reference start) ≡ Ok (map location_of ls)
     unfolding locations_read
     locations-read e =
-        ap (λ (l : Listing ListRefusal ListedLocation). list_read (unreadable_list LocationList e (list_named (list_source s h) (location_reference (length front)))) (map location_said l.items) l.fault) (located-of_value e.offset)
-        ∙ ap Ok (both-given (length front) ls)
+        ap (λ (l : Listing ListRefusal ListedLocation). list_read (unreadable_list LocationList e (list_named (list_source s h) (location_reference start))) (map location_said l.items) l.fault) (located-of_value e.offset)
+        ∙ ap Ok (both-given start ls)
 
 -- ---- the values that name lists
 

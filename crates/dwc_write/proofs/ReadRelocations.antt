@@ -1,23 +1,21 @@
 -- The relocations of what is spelled rise, lie within what is spelled, and those of functions are the ones of its address fields.
-use Rattle.std.proofs.Common.{◌≡◌, ℕ, ◌+◌, ◌≤◌, refl, sym, ap, ◌∙◌, arith, List, [], ◌∷◌, ◌++◌, ◌⊎◌, inl, inr, append_assoc, append-nil, length, length-append, replicate}
+use Rattle.std.proofs.Common.{◌≡◌, ℕ, ◌+◌, ◌≤◌, refl, sym, ap, ◌∙◌, arith, List, [], ◌∷◌, ◌++◌, ◌⊎◌, inl, inr, length, length-append, replicate}
 use Rattle.std.specs.List.{All, flat_map, filter_map}
 use Rattle.std.proofs.lemmas.List.Elements.{All-append, All-cons, All-nil, All-weaker, filter_map-append}
 use Rattle.dwc_base.specs.declared.records.Endian.{Endian}
 use Rattle.dwc_base.specs.declared.records.Address.{Address}
 use Rattle.dwc_base.specs.declared.records.Address.TheVariants.{Constant, Symbol}
-use Rattle.dwc_dwarf.specs.LineHeaders.{set_address}
 use Rattle.dwc_base.specs.Outputs.{OutputRelocation, function_relocation}
-use Rattle.dwc_base.specs.NumberBytes.{number_bytes, uleb_bytes}
+use Rattle.dwc_base.specs.NumberBytes.{uleb_bytes}
 use Rattle.dwc_section.specs.Spelled.{at_places}
-use Rattle.dwc_section.specs.SpelledAddresses.{AddressField, address_bytes, stored, relocation_for, relocations_of}
-use Rattle.dwc_unit.specs.SpelledUnits.{Written, as_addr, as_strp, as_ref_addr, as_sec_offset, written_bytes, value_fields, WrittenAttribute, attribute_bytes, Shaped, shaped, entry_bytes, entry_fields, entries_bytes, header_length, unit_body}
-use Rattle.dwc_unit.specs.SpelledLines.{instruction_bytes, instruction_fields, line_fields_bytes, program_bytes, program_fields, program_place, WrittenSequence, first_row, rows_instructions, sequence_instructions, sequences_instructions, line_body}
-use Rattle.dwc_write.specs.SpelledSections.{WrittenUnit, placed_unit_bytes, info_bytes, unit_fields, info_fields, WrittenTable, one_table_bytes, lines_bytes, one_table_fields, lines_fields}
-use Rattle.dwc_write.specs.SpelledRelocations.{value_relocations, entry_relocations, entries_relocations, unit_relocations, info_relocations, sequence_bytes, sequence_relocations, sequences_relocations, one_table_relocations, lines_relocations}
+use Rattle.dwc_section.specs.SpelledAddresses.{AddressField, stored, relocation_for, relocations_of}
+use Rattle.dwc_unit.specs.SpelledUnits.{Written, as_addr, as_strp, as_ref_addr, as_sec_offset, written_bytes, value_fields, WrittenAttribute, attribute_bytes, Shaped, shaped, entry_bytes, entry_fields, header_length, table_place}
+use Rattle.dwc_write.specs.SpelledSections.{WrittenUnit, placed_unit_bytes, info_bytes, unit_fields, info_fields}
+use Rattle.dwc_write.specs.SpelledRelocations.{value_relocations, entry_relocations, entries_relocations, unit_relocations, info_relocations}
 use Rattle.dwc_section.specs.RisingRelocations.{RelocationsRise}
 use Rattle.dwc_section.specs.Writers.{address_relocations, IsClear}
 use Rattle.dwc_section.proofs.ReadNumbers.{number_bytes-length}
-use Rattle.dwc_unit.proofs.RowFields.{at_places-append, rows-none}
+use Rattle.dwc_write.proofs.UnitHeaders.{table-within, unit-long}
 
 -- ---- lists of relocations that rise
 
@@ -33,7 +31,7 @@ pub rise-append : (low middle high : ℕ) (rs qs : List OutputRelocation) → Re
 rise-append low middle high [] qs rise on = rise-below low middle high qs rise on
 rise-append low middle high (r ∷ rs) qs rise on = (rise.0, rise-append (r.offset + r.size) middle high rs qs rise.1 on)
 
-into : (lower low high higher : ℕ) (rs : List OutputRelocation) → lower ≤ low → high ≤ higher → RelocationsRise low high rs → RelocationsRise lower higher rs
+pub into : (lower low high higher : ℕ) (rs : List OutputRelocation) → lower ≤ low → high ≤ higher → RelocationsRise low high rs → RelocationsRise lower higher rs
 into lower low high higher rs before behind rise = rise-below lower low higher rs before (rise-above low high higher rs behind rise)
 
 pub rise-places : {A : Type 0} (spell : A → List ℕ) (at : ℕ → A → List OutputRelocation) (xs : List A) (place : ℕ) → ((p : ℕ) (x : A) → RelocationsRise p (p + length (spell x)) (at p x))
@@ -62,9 +60,6 @@ clear-between offset size low high rs qs before rise behind =
 lengths : (a b c : List ℕ) → length (a ++ (b ++ c)) ≡ length a + (length b + length c)
 lengths a b c = simp (length-append) (omega arith)
 
-unit-lengths : (a b c : List ℕ) (size : ℕ) (d : List ℕ) → length (a ++ (b ++ (c ++ (size ∷ d)))) ≡ length a + (length b + (length c + (1 + length d)))
-unit-lengths a b c size d = simp (length-append) (omega arith)
-
 pub address-rise : (place size : ℕ) (a : Address) → RelocationsRise place (place + size) (address_relocations place size a)
 address-rise place size (Constant n) = omega arith
 address-rise place size (Symbol symbol addend) = (omega arith, omega arith)
@@ -90,55 +85,15 @@ entries-rise order size place xs = rise-places (entry_bytes order size) (entry_r
 
 unit-rise : (order : Endian) (size place : ℕ) (u : WrittenUnit) → RelocationsRise place (place + length (placed_unit_bytes order size u)) (unit_relocations order size place u)
 unit-rise order size place u =
-    let body = unit_body order size u.table_offset u.entries in
-    let inner = entries-rise order size (place + header_length) (shaped u.entries) in
-    let whole = unit-lengths (number_bytes order 4 (length body)) (number_bytes order 2 4) (number_bytes order 4 u.table_offset) size (entries_bytes order size u.entries) in (
+    let at = place + header_length u.version in
+    let first = place + table_place u.version in
+    let inner = entries-rise order size at (shaped u.entries) in (
       omega arith,
-      into ((place + 6) + 4) (place + header_length) _ _ (entries_relocations order size (place + header_length) (shaped u.entries)) (omega arith)
-          (omega (arith, whole, number_bytes-length order 4 (length body), number_bytes-length order 2 4, number_bytes-length order 4 u.table_offset)) inner,
+      into (first + 4) at _ _ (entries_relocations order size at (shaped u.entries)) (omega (arith, table-within u.version)) (omega (arith, unit-long u.version order size u.table_offset u.entries)) inner,
     )
 
 pub info-rise : (order : Endian) (size place : ℕ) (us : List WrittenUnit) → RelocationsRise place (place + length (info_bytes order size us)) (info_relocations order size place us)
 info-rise order size place us = rise-places (placed_unit_bytes order size) (unit_relocations order size) us place (unit-rise order size)
-
-sequence-rise : (order : Endian) (size place : ℕ) (q : WrittenSequence) → RelocationsRise place (place + length (sequence_bytes order size q)) (sequence_relocations order size place q)
-sequence-rise order size place q =
-    let address = address_bytes order size q.start_address in
-    let sized = uleb_bytes (length (2 ∷ address)) in
-    let rows = program_bytes order size (rows_instructions first_row q.rows q.end_offset) in
-    let at = ((place + 1) + length sized) + 1 in
-    into place at (at + size) _ (sequence_relocations order size place q) (omega arith)
-    (omega (arith, number_bytes-length order size (stored q.start_address), length-append sized (2 ∷ address), length-append (0 ∷ (sized ++ 2 ∷ address)) rows)) (address-rise at size q.start_address)
-
-pub sequences-rise : (order : Endian) (size place : ℕ) (qs : List WrittenSequence) → RelocationsRise place (place + length (flat_map (sequence_bytes order size) qs)) (sequences_relocations order size place qs)
-sequences-rise order size place qs = rise-places (sequence_bytes order size) (sequence_relocations order size) qs place (sequence-rise order size)
-
--- the bytes of all sequences are those of their instructions
-pub sequences-bytes : (order : Endian) (size : ℕ) (qs : List WrittenSequence) → flat_map (sequence_bytes order size) qs ≡ program_bytes order size (sequences_instructions qs)
-sequences-bytes order size [] = refl
-sequences-bytes order size (q ∷ qs) = ap (λ bytes. sequence_bytes order size q ++ bytes) (sequences-bytes order size qs) ∙ sym (flat_map-both (instruction_bytes order size) (sequence_instructions q) (sequences_instructions qs))
-  where
-    flat_map-both : {A : Type 0} (f : A → List ℕ) (xs ys : List A) → flat_map f (xs ++ ys) ≡ flat_map f xs ++ flat_map f ys
-    flat_map-both f [] ys = refl
-    flat_map-both f (x ∷ xs) ys = ap (λ bytes. f x ++ bytes) (flat_map-both f xs ys) ∙ sym (append_assoc (f x) (flat_map f xs) (flat_map f ys))
-
-table-rise : (order : Endian) (size place : ℕ) (t : WrittenTable) → RelocationsRise place (place + length (one_table_bytes order size t)) (one_table_relocations order size place t)
-table-rise order size place t =
-    let is = sequences_instructions t.sequences in
-    let fields = line_fields_bytes t.directories t.files in
-    let program = program_bytes order size is in
-    let body = line_body order size t.directories t.files is in
-    let at = place + program_place t.directories t.files in
-    let inner = sequences-rise order size at t.sequences in
-    let whole = table-lengths (number_bytes order 4 (length body)) (number_bytes order 2 4) (number_bytes order 4 (length fields)) fields program in
-    into place at _ _ (one_table_relocations order size place t) (omega arith)
-    (omega (arith, whole, ap length (sequences-bytes order size t.sequences), number_bytes-length order 4 (length body), number_bytes-length order 2 4, number_bytes-length order 4 (length fields))) inner
-  where
-    table-lengths : (a b c d e : List ℕ) → length (a ++ (b ++ ((c ++ d) ++ e))) ≡ length a + (length b + (length c + (length d + length e)))
-    table-lengths a b c d e = simp (length-append) (omega arith)
-
-pub lines-rise : (order : Endian) (size place : ℕ) (ts : List WrittenTable) → RelocationsRise place (place + length (lines_bytes order size ts)) (lines_relocations order size place ts)
-lines-rise order size place ts = rise-places (one_table_bytes order size) (one_table_relocations order size) ts place (table-rise order size)
 
 -- ---- those of functions are the ones of address fields
 
@@ -168,27 +123,7 @@ unit-functions : (order : Endian) (size place : ℕ) (u : WrittenUnit) → filte
 unit-functions order size place u =
     places-functions (entry_bytes order size) (entry_relocations order size) (entry_fields order size)
     (λ p x. places-functions (attribute_bytes order size) (λ q a. value_relocations size q a.value) (λ q a. value_fields size q a.value) (value-functions order size) x.entry.attributes (p + length (uleb_bytes x.entry.code)))
-    (shaped u.entries) (place + header_length)
+    (shaped u.entries) (place + header_length u.version)
 
 pub info-functions : (order : Endian) (size place : ℕ) (us : List WrittenUnit) → filter_map function_relocation (info_relocations order size place us) ≡ relocations_of (info_fields order size place us)
 info-functions order size place us = places-functions (placed_unit_bytes order size) (unit_relocations order size) (unit_fields order size) (unit-functions order size) us place
-
-sequence-functions : (order : Endian) (size place : ℕ) (q : WrittenSequence) → filter_map function_relocation (sequence_relocations order size place q) ≡ relocations_of (program_fields order size place (sequence_instructions q))
-sequence-functions order size place q =
-    let start = instruction_fields order size place (set_address q.start_address) in
-    let none = rows-none order size first_row q.rows q.end_offset (place + length (instruction_bytes order size (set_address q.start_address))) in
-    let alone : program_fields order size place (sequence_instructions q) ≡ start = ap (λ fs. start ++ fs) none ∙ append-nil start in
-    address-functions _ size q.start_address ∙ ap relocations_of (sym alone)
-
-sequences-functions : (order : Endian) (size : ℕ) (qs : List WrittenSequence) (place : ℕ) → filter_map function_relocation (sequences_relocations order size place qs) ≡ relocations_of (program_fields order size place (sequences_instructions qs))
-sequences-functions order size [] place = refl
-sequences-functions order size (q ∷ qs) place =
-    filter_map-append function_relocation (sequence_relocations order size place q) (sequences_relocations order size (place + length (sequence_bytes order size q)) qs)
-    ∙ ap (λ rs. rs ++ filter_map function_relocation (sequences_relocations order size (place + length (sequence_bytes order size q)) qs)) (sequence-functions order size place q)
-    ∙ ap (λ rs. relocations_of (program_fields order size place (sequence_instructions q)) ++ rs) (sequences-functions order size qs (place + length (sequence_bytes order size q)))
-    ∙ sym (filter_map-append relocation_for (program_fields order size place (sequence_instructions q)) (program_fields order size (place + length (sequence_bytes order size q)) (sequences_instructions qs)))
-    ∙ ap relocations_of (sym (at_places-append (instruction_bytes order size) (instruction_fields order size) (sequence_instructions q) (sequences_instructions qs) place))
-
-pub lines-functions : (order : Endian) (size place : ℕ) (ts : List WrittenTable) → filter_map function_relocation (lines_relocations order size place ts) ≡ relocations_of (lines_fields order size place ts)
-lines-functions order size place ts =
-    places-functions (one_table_bytes order size) (one_table_relocations order size) (one_table_fields order size) (λ p t. sequences-functions order size t.sequences (p + program_place t.directories t.files)) ts place

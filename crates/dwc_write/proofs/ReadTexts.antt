@@ -70,8 +70,8 @@ laid-short texts l id laid =
     let short = laid.short in
     omega (arith, ap (λ (o : Option ℕ). unwrap_or o 0) (laid.places id), place-bound texts l.used.items 0 id, long, short)
 
-pub all-placed : (us : List UnitPlaces) (vs : List UnitPlaces) (ps qs : List (Option ℕ)) → us ≡ vs → ps ≡ qs → ◌≡◌ {A = AllPlaces} (record { units = us; texts = ps }) (record { units = vs; texts = qs })
-all-placed us vs ps qs units texts = rw (units, texts) refl
+pub all-placed : (us vs : List UnitPlaces) (ps qs : List (Option ℕ)) (table ns ms : List (List ℕ)) → us ≡ vs → ps ≡ qs → ns ≡ ms → ◌≡◌ {A = AllPlaces} (record { units = us; texts = ps; table = table; names = ns }) (record { units = vs; texts = qs; table = table; names = ms })
+all-placed us vs ps qs table ns ms units texts names = rw (units, texts, names) refl
 
 -- ---- numbers that are used
 

@@ -1,5 +1,6 @@
--- The relocations of the lists of units are those of the fields that a reader comes upon: `entries-lists`, for each kind.
-use Rattle.std.proofs.Common.{◌≡◌, ℕ, ◌+◌, ◌<◌, refl, sym, ap, ◌∙◌, List, [], ◌∷◌, ◌++◌, length, length-append, map, Bool, true, false}
+-- The relocations of the lists of units are those of the fields that a reader comes upon: `entries-lists`, for each kind. Here are those up to
+-- version 4; those of version 5 are in `RelatedCountedGiven`.
+use Rattle.std.proofs.Common.{◌≡◌, ℕ, ◌+◌, ◌<◌, refl, sym, ap, subst, ◌∙◌, List, [], ◌∷◌, ◌++◌, length, map, Bool, true, false}
 use Rattle.std.specs.Prelude.{◌==◌, if◌then◌else◌}
 use Rattle.std.specs.List.{All, flat_map}
 use Rattle.std.specs.Int.{w64, cast_signed}
@@ -13,7 +14,7 @@ use Rattle.dwc_dwarf.specs.Entries.{Entry}
 use Rattle.dwc_dwarf.specs.Values as Values
 use Rattle.dwc_dwarf.specs.Values.{Value, is_expression_name, section_offset}
 use Rattle.dwc_base.specs.declared.records.Address.{Address as RangeAddress}
-use Rattle.dwc_output.specs.Fields.{Field, fields_of_listed, fields_of_lists, fields_of_named, relocations_of_fields, relocation_of, without_expression}
+use Rattle.dwc_output.specs.Fields.{Field, fields_of_listed, fields_of_named, relocations_of_fields, relocation_of, without_expression}
 use Rattle.dwc_dwarf.specs.Lists.{list_source}
 use Rattle.dwc_base.specs.Outputs.{OutputRelocation}
 use Rattle.dwc_dwarf.specs.RawLists.{is_location_list, is_range_list}
@@ -23,13 +24,14 @@ use Rattle.dwc_unit.specs.declared.attributes.AttributeValue.TheVariants.{Addres
 use Rattle.dwc_unit.specs.declared.attributes.DebugInfoRef.TheVariants.{Entry as entry_of}
 use Rattle.dwc_unit.specs.declared.lists.ListPlaces.{ListPlaces}
 use Rattle.dwc_unit.specs.GivenUnits.{GivenEntry, Places, FitsAttribute, FitsEntry, FitsValue, lists_of_entries, written_of}
-use Rattle.dwc_unit.specs.Lists.{ListEntry, behind_attributes, behind_lists, behind_value, ended, list_bytes, list_length, list_relocations, listed_bytes, listed_relocations, lists_of_attributes, location_entry, locations_in, range_entry, ranges_in}
+use Rattle.dwc_unit.specs.Lists.{ListEntry, behind_attributes, behind_value, ended, list_length, list_relocations, listed_bytes, listed_relocations, lists_of_attributes, location_entry, locations_in, range_entry, ranges_in}
 use Rattle.dwc_write.specs.ReadBack.{Contents, given_contents, given_values, read_contents}
 use Rattle.dwc_unit.specs.SpelledUnits.{as_data1, as_data2, as_data4, as_data8, as_udata, as_sdata, written_value}
-use Rattle.dwc_write.proofs.ListPlaces.{IsPlaceOf, locations-place, ranges-place}
-use Rattle.dwc_write.proofs.ListsGiven.{StandThere, next-attributes, next-value, stand-back, stand-front}
+use Rattle.dwc_write.proofs.ListPlaces.{IsPlaceOf, list-length, locations-place, ranges-place}
+use Rattle.dwc_write.proofs.ListsGiven.{StandThere, next-attributes, stand-back, stand-front}
 use Rattle.dwc_write.proofs.ReadListed.{raw_pair}
-use Rattle.dwc_write.proofs.ReadLists.{location-offset, locations-named, locations-raw, range-offset, ranges-named, ranges-raw}
+use Rattle.dwc_write.proofs.ReadLists as old
+use Rattle.dwc_write.proofs.ReadLists.{location-offset, range-offset}
 use Rattle.dwc_unit.proofs.RowFields.{at_places-append}
 use Rattle.dwc_write.proofs.RelatedLists.{list-related, read_from}
 
@@ -43,67 +45,70 @@ none-named kind s h v other = rw (other, fields_of_named) refl
 
 -- ---- entries of a kind, of which each value's list has its relocations
 
-module _ (s : Sections) (h : UnitHeader) (name : SectionName) (test : Value → Bool) (kind : AttributeValue → List ListEntry) (at : ListPlaces → ℕ) (place : IsPlaceOf kind h.address_size at) (p : Places) where
+-- The fields of the list that a value names, in a unit.
+abbrev pub FieldsNamed : Type 0
+FieldsNamed = UnitHeader → Value → List Field
+
+module _ (version : ℕ) (s : Sections) (h : UnitHeader) (name : SectionName) (named : FieldsNamed) (kind : AttributeValue → List ListEntry) (at : ListPlaces → ℕ) (is : IsPlaceOf kind version h.address_size at) (p : Places) where
   abbrev size : ℕ
   size = h.address_size
 
-  abbrev Stand : List ℕ → List ℕ → List ListEntry → Type 0
-  Stand front rest es = StandThere s h.address_size name front rest es
+  abbrev Stand : ℕ → List ListEntry → Type 0
+  Stand place es = StandThere version s h.address_size name place es
 
   abbrev fields_among : List (ℕ × Value) → List Field
-  fields_among xs = flat_map (λ a. fields_of_named test s h a.1) xs
+  fields_among xs = flat_map (λ a. named h a.1) xs
 
   abbrev values_from : ListPlaces → List Attribute → List (ℕ × Value)
-  values_from places xs = given_values (behind_attributes size) p places xs
+  values_from places xs = given_values (behind_attributes version size) p places xs
 
   abbrev contents_from : ListPlaces → List GivenEntry → List Contents
-  contents_from places gs = given_contents (behind_attributes size) p places gs
+  contents_from places gs = given_contents (behind_attributes version size) p places gs
 
-  abbrev relocations_from : List ℕ → List ListEntry → List OutputRelocation
-  relocations_from front es = list_relocations s.order size (length front) es
+  abbrev relocations_from : ℕ → List ListEntry → List OutputRelocation
+  relocations_from place es = list_relocations version s.order size place es
 
   -- two parts, one behind the other
-  parts-related : (front : List ℕ) (es fs : List ListEntry) → relocations_from front es ++ relocations_from (front ++ list_bytes s.order size es) fs ≡ relocations_from front (es ++ fs)
-  parts-related front es fs =
-      ap (λ n. relocations_from front es ++ list_relocations s.order size n fs) (length-append front (list_bytes s.order size es)) ∙ sym (at_places-append (listed_bytes s.order size) (listed_relocations s.order size) es fs (length front))
+  parts-related : (place : ℕ) (es fs : List ListEntry) → relocations_from place es ++ relocations_from (place + list_length version size es) fs ≡ relocations_from place (es ++ fs)
+  parts-related place es fs =
+      ap (λ n. relocations_from place es ++ relocations_from (place + n) fs) (sym (list-length version s.order size es)) ∙ sym (at_places-append (listed_bytes version s.order size) (listed_relocations version s.order size) es fs place)
 
-  module _ (each : (places : ListPlaces) (front rest : List ℕ) (x : Attribute) → at places ≡ length front → FitsAttribute h.address_size x → Stand front rest (kind x.value) → relocations_of_fields (fields_of_named test s h (written_value x.name (written_of p places x.value))) ≡ relocations_from front (kind x.value)) where
-    attributes-lists : (places : ListPlaces) (front rest : List ℕ) (xs : List Attribute) → at places ≡ length front → All (FitsAttribute size) xs → Stand front rest (lists_of_attributes kind xs) → relocations_of_fields (fields_among (values_from places xs)) ≡ relocations_from front (lists_of_attributes kind xs)
-    attributes-lists places front rest [] here fits there = refl
-    attributes-lists places front rest (x ∷ xs) here fits there =
+  module _ (each : (places : ListPlaces) (x : Attribute) → FitsAttribute h.address_size x → Stand (at places) (kind x.value) → relocations_of_fields (named h (written_value x.name (written_of p places x.value))) ≡ relocations_from (at places) (kind x.value)) where
+    attributes-lists : (places : ListPlaces) (xs : List Attribute) → All (FitsAttribute size) xs → Stand (at places) (lists_of_attributes kind xs) → relocations_of_fields (fields_among (values_from places xs)) ≡ relocations_from (at places) (lists_of_attributes kind xs)
+    attributes-lists places [] fits there = refl
+    attributes-lists places (x ∷ xs) fits there =
         let es = kind x.value in
         let fs = lists_of_attributes kind xs in
-        let bytes = list_bytes s.order size es in
-        let next : at (behind_value size places x.value) ≡ length (front ++ bytes) = place.value places x.value ∙ ap (λ n. n + list_length size es) here ∙ sym (next-value s size name kind front x.value) in
-        let own = each places front _ x here (All-head (FitsAttribute size) x xs fits) (stand-front s size name front rest es fs there) in
-        let others = attributes-lists (behind_value size places x.value) (front ++ bytes) rest xs next (All-tail (FitsAttribute size) x xs fits) (stand-back s size name front rest es fs there) in
-        both-related (fields_of_named test s h (written_value x.name (written_of p places x.value))) (fields_among (values_from (behind_value size places x.value) xs))
-        ∙ ap (λ rs. rs ++ relocations_of_fields (fields_among (values_from (behind_value size places x.value) xs))) own
-        ∙ ap (λ rs. relocations_from front es ++ rs) others
-        ∙ parts-related front es fs
+        let after = behind_value version size places x.value in
+        let next : at after ≡ at places + list_length version size es = is.value places x.value in
+        let own = each places _ (All-head (FitsAttribute size) x xs fits) (stand-front version s size name (at places) es fs there) in
+        let others = attributes-lists after xs (All-tail (FitsAttribute size) x xs fits) (subst (λ n. Stand n fs) (sym next) (stand-back version s size name (at places) es fs there)) in
+        both-related (named h (written_value x.name (written_of p places x.value))) (fields_among (values_from after xs))
+        ∙ ap (λ rs. rs ++ relocations_of_fields (fields_among (values_from after xs))) own
+        ∙ ap (λ rs. relocations_from (at places) es ++ rs) (others ∙ ap (λ n. relocations_from n fs) next)
+        ∙ parts-related (at places) es fs
 
-    contents-lists : (places : ListPlaces) (front rest : List ℕ) (gs : List GivenEntry) → at places ≡ length front → All (FitsEntry size) gs → Stand front rest (lists_of_entries kind gs) → relocations_of_fields (flat_map (λ c. fields_among c.attributes) (contents_from places gs)) ≡ relocations_from front (lists_of_entries kind gs)
-    contents-lists places front rest [] here fits there = refl
-    contents-lists places front rest (g ∷ gs) here fits there =
+    contents-lists : (places : ListPlaces) (gs : List GivenEntry) → All (FitsEntry size) gs → Stand (at places) (lists_of_entries kind gs) → relocations_of_fields (flat_map (λ c. fields_among c.attributes) (contents_from places gs)) ≡ relocations_from (at places) (lists_of_entries kind gs)
+    contents-lists places [] fits there = refl
+    contents-lists places (g ∷ gs) fits there =
         let es = lists_of_attributes kind g.attributes in
         let fs = lists_of_entries kind gs in
-        let bytes = list_bytes s.order size es in
-        let after = behind_attributes size places g.attributes in
-        let next : at after ≡ length (front ++ bytes) = place.attributes places g.attributes ∙ ap (λ n. behind_lists kind size n g.attributes) here ∙ sym (next-attributes s size name kind front g.attributes) in
-        let own = attributes-lists places front _ g.attributes here (All-head (FitsEntry size) g gs fits).attributes (stand-front s size name front rest es fs there) in
-        let others = contents-lists after (front ++ bytes) rest gs next (All-tail (FitsEntry size) g gs fits) (stand-back s size name front rest es fs there) in
+        let after = behind_attributes version size places g.attributes in
+        let next : at after ≡ at places + list_length version size es = is.attributes places g.attributes ∙ sym (next-attributes version s size name kind (at places) g.attributes) in
+        let own = attributes-lists places g.attributes (All-head (FitsEntry size) g gs fits).attributes (stand-front version s size name (at places) es fs there) in
+        let others = contents-lists after gs (All-tail (FitsEntry size) g gs fits) (subst (λ n. Stand n fs) (sym next) (stand-back version s size name (at places) es fs there)) in
         both-related (fields_among (values_from places g.attributes)) (flat_map (λ (c : Contents). fields_among c.attributes) (contents_from after gs))
         ∙ ap (λ rs. rs ++ relocations_of_fields (flat_map (λ (c : Contents). fields_among c.attributes) (contents_from after gs))) own
-        ∙ ap (λ rs. relocations_from front es ++ rs) others
-        ∙ parts-related front es fs
+        ∙ ap (λ rs. relocations_from (at places) es ++ rs) (others ∙ ap (λ n. relocations_from n fs) next)
+        ∙ parts-related (at places) es fs
 
-    by-contents : (es : List Entry) → flat_map (fields_of_lists test s h) es ≡ flat_map (λ c. fields_among c.attributes) (map read_contents es)
+    by-contents : (es : List Entry) → flat_map (λ e. fields_among e.attributes) es ≡ flat_map (λ c. fields_among c.attributes) (map read_contents es)
     by-contents [] = refl
-    by-contents (e ∷ es) = ap (λ fs. fields_of_lists test s h e ++ fs) (by-contents es)
+    by-contents (e ∷ es) = ap (λ fs. fields_among e.attributes ++ fs) (by-contents es)
 
-    pub entries-lists : (places : ListPlaces) (front rest : List ℕ) (es : List Entry) (gs : List GivenEntry) → at places ≡ length front → map read_contents es ≡ contents_from places gs → All (FitsEntry size) gs → Stand front rest (lists_of_entries kind gs)
-        → relocations_of_fields (flat_map (fields_of_lists test s h) es) ≡ relocations_from front (lists_of_entries kind gs)
-    entries-lists places front rest es gs here same fits there = ap relocations_of_fields (by-contents es ∙ ap (flat_map (λ (c : Contents). fields_among c.attributes)) same) ∙ contents-lists places front rest gs here fits there
+    pub entries-lists : (places : ListPlaces) (es : List Entry) (gs : List GivenEntry) → map read_contents es ≡ contents_from places gs → All (FitsEntry size) gs → Stand (at places) (lists_of_entries kind gs)
+        → relocations_of_fields (flat_map (λ e. fields_among e.attributes) es) ≡ relocations_from (at places) (lists_of_entries kind gs)
+    entries-lists places es gs same fits there = ap relocations_of_fields (by-contents es ∙ ap (flat_map (λ (c : Contents). fields_among c.attributes)) same) ∙ contents-lists places gs fits there
 
 -- ---- the values of both kinds
 
@@ -122,13 +127,13 @@ block-listless true bytes e = (refl, refl)
 block-listless false bytes e = (refl, refl)
 
 -- a value is no list
-abbrev NamesNoList : AttributeValue → Type 0
+abbrev pub NamesNoList : AttributeValue → Type 0
 NamesNoList (RangeListRef list) = ⊥
 NamesNoList (LocationListRef list) = ⊥
 NamesNoList _ = Unit {0}
 
 -- nor is it read as one
-listless : (size name : ℕ) (p : Places) (places : ListPlaces) (v : AttributeValue) → NamesNoList v → FitsValue size name v → (is_range_list (written_value name (written_of p places v)) ≡ false) × (is_location_list (written_value name (written_of p places v)) ≡ false)
+pub listless : (size name : ℕ) (p : Places) (places : ListPlaces) (v : AttributeValue) → NamesNoList v → FitsValue size name v → (is_range_list (written_value name (written_of p places v)) ≡ false) × (is_location_list (written_value name (written_of p places v)) ≡ false)
 listless size name p places (RangeListRef list) none fits = absurd none
 listless size name p places (LocationListRef list) none fits = absurd none
 listless size name p places (Address a) none fits = (refl, refl)
@@ -141,39 +146,41 @@ listless size name p places LineProgramRef none fits = (rw (fits) refl, rw (fits
 listless size name p places (UnitRef id) none fits = (refl, refl)
 listless size name p places (DebugInfoRef (entry_of unit id)) none fits = (refl, refl)
 
+-- ---- up to version 4
+
 module _ (s : Sections) (h : UnitHeader) (version : h.version ≡ 4) (some : 0 < h.address_size) (p : Places) where
   -- the entries of a list have their relocations
-  related : (place : ℕ) (es : List ListEntry) → relocations_of_fields (fields_of_listed (list_source s h).address_size place (read_from s.order h.address_size place es)) ≡ list_relocations s.order h.address_size place (ended es)
+  related : (place : ℕ) (es : List ListEntry) → relocations_of_fields (fields_of_listed (list_source s h).address_size place (read_from s.order h.address_size place es)) ≡ list_relocations 4 s.order h.address_size place (ended es)
   unfolding list_source
   related place es = list-related s.order h.address_size place es
 
   ranges-from : (place : ℕ) (rs : List (RangeAddress × ℕ)) → map without_expression (map raw_pair (map range_entry rs)) ≡ read_from s.order h.address_size place (map range_entry rs)
   ranges-from place [] = refl
-  ranges-from place (r ∷ rs) = ap (λ xs. without_expression (raw_pair (range_entry r)) ∷ xs) (ranges-from (place + length (listed_bytes s.order h.address_size (range_entry r))) rs)
+  ranges-from place (r ∷ rs) = ap (λ xs. without_expression (raw_pair (range_entry r)) ∷ xs) (ranges-from (place + length (listed_bytes 4 s.order h.address_size (range_entry r))) rs)
 
   -- the relocations of what a value is read as
-  abbrev named : (Value → Bool) → ℕ → ListPlaces → AttributeValue → List OutputRelocation
-  named kind name places v = relocations_of_fields (fields_of_named kind s h (written_value name (written_of p places v)))
+  abbrev named_relocations : (Value → Bool) → ℕ → ListPlaces → AttributeValue → List OutputRelocation
+  named_relocations kind name places v = relocations_of_fields (fields_of_named kind s h (written_value name (written_of p places v)))
 
   -- a value that is no list has none
-  other-range : (name : ℕ) (places : ListPlaces) (v : AttributeValue) → NamesNoList v → FitsValue h.address_size name v → named is_range_list name places v ≡ []
+  other-range : (name : ℕ) (places : ListPlaces) (v : AttributeValue) → NamesNoList v → FitsValue h.address_size name v → named_relocations is_range_list name places v ≡ []
   other-range name places v none fits = none-named is_range_list s h (written_value name (written_of p places v)) (listless h.address_size name p places v none fits).0
 
-  other-location : (name : ℕ) (places : ListPlaces) (v : AttributeValue) → NamesNoList v → FitsValue h.address_size name v → named is_location_list name places v ≡ []
+  other-location : (name : ℕ) (places : ListPlaces) (v : AttributeValue) → NamesNoList v → FitsValue h.address_size name v → named_relocations is_location_list name places v ≡ []
   other-location name places v none fits = none-named is_location_list s h (written_value name (written_of p places v)) (listless h.address_size name p places v none fits).1
 
-  range-each : (places : ListPlaces) (front rest : List ℕ) (x : Attribute) → places.ranges ≡ length front → FitsAttribute h.address_size x → StandThere s h.address_size Ranges front rest (ranges_in x.value) → named is_range_list x.name places x.value ≡ list_relocations s.order h.address_size (length front) (ranges_in x.value)
+  range-each-4 : (places : ListPlaces) (x : Attribute) → FitsAttribute h.address_size x → StandThere 4 s h.address_size Ranges places.ranges (ranges_in x.value) → named_relocations is_range_list x.name places x.value ≡ list_relocations 4 s.order h.address_size places.ranges (ranges_in x.value)
   unfolding fields_of_named
-  range-each places front rest x here fits there = go x.value fits.value there
+  range-each-4 places x fits there = go x.value fits.value there
     where
-      go : (v : AttributeValue) → FitsValue h.address_size x.name v → StandThere s h.address_size Ranges front rest (ranges_in v) → named is_range_list x.name places v ≡ list_relocations s.order h.address_size (length front) (ranges_in v)
+      go : (v : AttributeValue) → FitsValue h.address_size x.name v → StandThere 4 s h.address_size Ranges places.ranges (ranges_in v) → named_relocations is_range_list x.name places v ≡ list_relocations 4 s.order h.address_size places.ranges (ranges_in v)
       go (RangeListRef list) fit stand =
           let rs = list.ranges.items in
-          let found_name = ranges-named s h version some front rest rs stand.bytes fit.1 stand.held in
-          let raw = ranges-raw s h version some front rest rs stand.bytes fit.1 stand.held in
-          let found : fields_of_named is_range_list s h (Values.range_reference (length front)) ≡ fields_of_listed (list_source s h).address_size (length front) (map without_expression (map raw_pair (map range_entry rs))) = rw (found_name, raw) refl in
-          ap (λ v. relocations_of_fields (fields_of_named is_range_list s h v)) (range-offset x.name places.ranges fit.0 ∙ ap Values.range_reference here)
-          ∙ ap relocations_of_fields (found ∙ ap (fields_of_listed (list_source s h).address_size (length front)) (ranges-from (length front) rs)) ∙ related (length front) (map range_entry rs)
+          let found_name = old.ranges-named s h version some places.ranges stand.rest rs stand.bytes fit.1 stand.held in
+          let raw = old.ranges-raw s h version some places.ranges stand.rest rs stand.bytes fit.1 stand.held in
+          let found : fields_of_named is_range_list s h (Values.range_reference places.ranges) ≡ fields_of_listed (list_source s h).address_size places.ranges (map without_expression (map raw_pair (map range_entry rs))) = rw (found_name, raw) refl in
+          ap (λ v. relocations_of_fields (fields_of_named is_range_list s h v)) (range-offset x.name places.ranges fit.0)
+          ∙ ap relocations_of_fields (found ∙ ap (fields_of_listed (list_source s h).address_size places.ranges) (ranges-from places.ranges rs)) ∙ related places.ranges (map range_entry rs)
       go (LocationListRef list) fit stand = none-named is_range_list s h (section_offset x.name places.locations) (ap is_range_list (location-offset x.name places.locations fit.0))
       go (Address a) fit stand = other-range x.name places (Address a) tt fit
       go (Constant form bits) fit stand = other-range x.name places (Constant form bits) tt fit
@@ -185,18 +192,17 @@ module _ (s : Sections) (h : UnitHeader) (version : h.version ≡ 4) (some : 0 <
       go (UnitRef id) fit stand = other-range x.name places (UnitRef id) tt fit
       go (DebugInfoRef reference) fit stand = other-range x.name places (DebugInfoRef reference) tt fit
 
-  location-each : (places : ListPlaces) (front rest : List ℕ) (x : Attribute) → places.locations ≡ length front → FitsAttribute h.address_size x → StandThere s h.address_size Loc front rest (locations_in x.value) → named is_location_list x.name places x.value ≡ list_relocations s.order h.address_size (length front) (locations_in x.value)
+  location-each-4 : (places : ListPlaces) (x : Attribute) → FitsAttribute h.address_size x → StandThere 4 s h.address_size Loc places.locations (locations_in x.value) → named_relocations is_location_list x.name places x.value ≡ list_relocations 4 s.order h.address_size places.locations (locations_in x.value)
   unfolding fields_of_named
-  location-each places front rest x here fits there = go x.value fits.value there
+  location-each-4 places x fits there = go x.value fits.value there
     where
-      go : (v : AttributeValue) → FitsValue h.address_size x.name v → StandThere s h.address_size Loc front rest (locations_in v) → named is_location_list x.name places v ≡ list_relocations s.order h.address_size (length front) (locations_in v)
+      go : (v : AttributeValue) → FitsValue h.address_size x.name v → StandThere 4 s h.address_size Loc places.locations (locations_in v) → named_relocations is_location_list x.name places v ≡ list_relocations 4 s.order h.address_size places.locations (locations_in v)
       go (LocationListRef list) fit stand =
           let ls = list.locations.items in
-          let found_name = locations-named s h version some front rest ls stand.bytes fit.1 stand.short stand.held in
-          let raw = locations-raw s h version some front rest ls stand.bytes fit.1 stand.short stand.held in
-          let found : fields_of_named is_location_list s h (Values.location_reference (length front)) ≡ fields_of_listed (list_source s h).address_size (length front) (read_from s.order h.address_size (length front) (map location_entry ls)) = rw (found_name, raw) refl in
-          ap (λ v. relocations_of_fields (fields_of_named is_location_list s h v)) (location-offset x.name places.locations fit.0 ∙ ap Values.location_reference here)
-          ∙ ap relocations_of_fields found ∙ related (length front) (map location_entry ls)
+          let found_name = old.locations-named s h version some places.locations stand.rest ls stand.bytes fit.1 stand.short stand.held in
+          let raw = old.locations-raw s h version some places.locations stand.rest ls stand.bytes fit.1 stand.short stand.held in
+          let found : fields_of_named is_location_list s h (Values.location_reference places.locations) ≡ fields_of_listed (list_source s h).address_size places.locations (read_from s.order h.address_size places.locations (map location_entry ls)) = rw (found_name, raw) refl in
+          ap (λ v. relocations_of_fields (fields_of_named is_location_list s h v)) (location-offset x.name places.locations fit.0) ∙ ap relocations_of_fields found ∙ related places.locations (map location_entry ls)
       go (RangeListRef list) fit stand = none-named is_location_list s h (section_offset x.name places.ranges) (ap is_location_list (range-offset x.name places.ranges fit.0))
       go (Address a) fit stand = other-location x.name places (Address a) tt fit
       go (Constant form bits) fit stand = other-location x.name places (Constant form bits) tt fit
@@ -210,20 +216,21 @@ module _ (s : Sections) (h : UnitHeader) (version : h.version ≡ 4) (some : 0 <
 
 -- ---- the kinds
 
--- What a kind of lists is to show of units: its lists stand in a section, are read by a test of values, and have their relocations.
-pub record IsRelatedKind (s : Sections) (name : SectionName) (test : Value → Bool) (kind : AttributeValue → List ListEntry) (at : ListPlaces → ℕ) : Type 0 where
-  pub place : (size : ℕ) → IsPlaceOf kind size at
-  pub related : (h : UnitHeader) → h.version ≡ 4 → 0 < h.address_size → (p : Places) (places : ListPlaces) (front rest : List ℕ) (es : List Entry) (gs : List GivenEntry) → at places ≡ length front → map read_contents es ≡ given_contents (behind_attributes h.address_size) p places gs → All (FitsEntry h.address_size) gs
-      → StandThere s h.address_size name front rest (lists_of_entries kind gs) → relocations_of_fields (flat_map (fields_of_lists test s h) es) ≡ list_relocations s.order h.address_size (length front) (lists_of_entries kind gs)
+-- What a kind of lists is to show of units of a version: its lists stand in a section, are read as fields by a reader of values, and have their
+-- relocations.
+pub record IsRelatedKind (version : ℕ) (s : Sections) (name : SectionName) (named : FieldsNamed) (kind : AttributeValue → List ListEntry) (at : ListPlaces → ℕ) : Type 0 where
+  pub place : (size : ℕ) → IsPlaceOf kind version size at
+  pub related : (h : UnitHeader) → h.version ≡ version → 0 < h.address_size → (p : Places) (places : ListPlaces) (es : List Entry) (gs : List GivenEntry) → map read_contents es ≡ given_contents (behind_attributes version h.address_size) p places gs → All (FitsEntry h.address_size) gs
+      → StandThere version s h.address_size name (at places) (lists_of_entries kind gs) → relocations_of_fields (flat_map (λ e. flat_map (λ a. named h a.1) e.attributes) es) ≡ list_relocations version s.order h.address_size (at places) (lists_of_entries kind gs)
 
-pub ranges-related : (s : Sections) → IsRelatedKind s Ranges is_range_list ranges_in (λ places. places.ranges)
-ranges-related s = record {
-  place = ranges-place;
-  related = λ h version some p. entries-lists s h Ranges is_range_list ranges_in (λ places. places.ranges) (ranges-place h.address_size) p (range-each s h version some p);
+pub ranges-related-4 : (s : Sections) → IsRelatedKind 4 s Ranges (fields_of_named is_range_list s) ranges_in (λ places. places.ranges)
+ranges-related-4 s = record {
+  place = ranges-place 4;
+  related = λ h version some p. entries-lists 4 s h Ranges (fields_of_named is_range_list s) ranges_in (λ places. places.ranges) (ranges-place 4 h.address_size) p (range-each-4 s h version some p);
 }
 
-pub locations-related : (s : Sections) → IsRelatedKind s Loc is_location_list locations_in (λ places. places.locations)
-locations-related s = record {
-  place = locations-place;
-  related = λ h version some p. entries-lists s h Loc is_location_list locations_in (λ places. places.locations) (locations-place h.address_size) p (location-each s h version some p);
+pub locations-related-4 : (s : Sections) → IsRelatedKind 4 s Loc (fields_of_named is_location_list s) locations_in (λ places. places.locations)
+locations-related-4 s = record {
+  place = locations-place 4;
+  related = λ h version some p. entries-lists 4 s h Loc (fields_of_named is_location_list s) locations_in (λ places. places.locations) (locations-place 4 h.address_size) p (location-each-4 s h version some p);
 }

@@ -11,17 +11,19 @@ use Rattle.std.proofs.lemmas.Slice.Eq.{bytes_eq-Decides}
 use Rattle.dwc_dwarf.specs.Trees.{TreeValue}
 use Rattle.dwc_dwarf.specs.TreeLaws.{distinct_texts, text_said, texts_ended, values_of, with_new_text}
 use Rattle.dwc_output.specs.TreeReading.{entry_or_nothing}
+use Rattle.dwc_output.specs.Versions.{is_old}
+use Rattle.dwc_output.specs.WidestTrees.{widest_of_trees}
 use Rattle.dwc_unit.specs.declared.attributes.Attribute.{Attribute}
 use Rattle.dwc_unit.specs.declared.attributes.AttributeValue.{AttributeValue}
 use Rattle.dwc_unit.specs.declared.attributes.AttributeValue.TheVariants.{Address, Constant, Flag, Block, Exprloc, StringRef, LineProgramRef, RangeListRef, LocationListRef, UnitRef, DebugInfoRef}
 use Rattle.dwc_unit.specs.declared.attributes.DebugInfoRef.TheVariants.{Entry as entry_of}
-use Rattle.dwc_unit.specs.GivenUnits.{GivenEntry, OrderedUnit}
+use Rattle.dwc_unit.specs.GivenUnits.{GivenEntry, OrderedUnit, version_of}
 use Rattle.dwc_unit.specs.GivenTrees.{given_said, attribute_said, tree_entry, trees_from, given_trees}
 use Rattle.dwc_unit.specs.TextTables.{AreTexts}
 use Rattle.dwc_unit.specs.UsedTexts.{HaveTexts, strings_bytes, text_numbered, text_of_value, texts_named, texts_of_attributes, texts_of_entries, with_number, with_numbers}
 use Rattle.dwc_section.specs.declared.error.WriteError.{WriteError}
 use Rattle.dwc_write.specs.TextViews.{IsTextRefusal}
-use Rattle.dwc_unit.specs.WidestGiven.{IsWideRefusal, widest_said}
+use Rattle.dwc_unit.specs.WidestGiven.{IsWideRefusal, widest_new, widest_said}
 use Rattle.dwc_base.specs.declared.section_name.SectionName.TheVariants.{Str}
 use Rattle.dwc_section.specs.Writers.{most_bytes}
 use Rattle.dwc_section.proofs.RefusalLaws.{past-among, size-refusal}
@@ -124,8 +126,16 @@ module _ (texts : List (List ℕ)) (table : AreTexts texts) where
   pub strings-said : (us : List OrderedUnit) → HaveTexts texts us → texts_ended (distinct_texts (given_trees texts us)) ≡ strings_bytes texts us
   strings-said us known = ap texts_ended (ap (fold with_new_text []) (units-said texts us 0 us) ∙ numbers-said (texts_named us) [] (All-nil (λ k. k < length texts)) known)
 
+-- texts take as much in both versions
+texts-widest : (texts : List (List ℕ)) (us : List OrderedUnit) → widest_said Str texts us ≡ length (texts_ended (distinct_texts (given_trees texts us)))
+texts-widest texts us = go (is_old (version_of us))
+  where
+    go : (old : Bool) → (if old then widest_of_trees Str (given_trees texts us) else widest_new Str (given_trees texts us)) ≡ length (texts_ended (distinct_texts (given_trees texts us)))
+    go true = refl
+    go false = refl
+
 -- A refusal of texts is one for their widest size.
 pub texts-widely : (texts : List (List ℕ)) (us : List OrderedUnit) (e : WriteError) → AreTexts texts → HaveTexts texts us → IsTextRefusal e (length (strings_bytes texts us)) → IsWideRefusal texts us e
 texts-widely texts us e table known refused =
     let said = ap length (strings-said texts table us known) in
-    size-refusal _ (λ m. most_bytes < widest_said m texts us) e (past-among (λ m. widest_said m texts us) Str _ e (λ large. omega (arith, large, said)) refused)
+    size-refusal _ (λ m. most_bytes < widest_said m texts us) e (past-among (λ m. widest_said m texts us) Str _ e (λ large. omega (arith, large, said, texts-widest texts us)) refused)

@@ -7,7 +7,7 @@ use Rattle.dwc_base.specs.declared.records.LineRow.{LineRow}
 use Rattle.dwc_base.specs.NumberBytes.{uleb_bytes}
 use Rattle.dwc_section.specs.SpelledAddresses.{address_bytes, stored}
 use Rattle.dwc_unit.specs.SpelledLines.{WrittenSequence, first_row, program_bytes, row_instructions, rows_instructions}
-use Rattle.dwc_write.specs.SpelledRelocations.{sequence_bytes, sequence_relocations}
+use Rattle.dwc_write.specs.SequenceRelocations.{sequence_bytes, sequence_relocations}
 use Rattle.dwc_section.specs.Writers.{address_relocations}
 use Rattle.dwc_section.proofs.ReadNumbers.{uleb_bytes-small, number_bytes-length}
 use Rattle.dwc_unit.proofs.ReadWritten.{row-bytes, rows-bytes-end, rows-bytes-more}

@@ -1,15 +1,16 @@
 -- What is found of the lengths of expressions in the order of addition holds in file order (`order-short`), is what the units' trees say
--- (`said-short`), and means that their lists are short (`short-units`).
+-- (`said-short`), and means that their lists are short (`short-trees`). From version 5 on all lists are.
 use Rattle.std.proofs.Common.{◌≡◌, ℕ, suc, ◌<◌, refl, sym, ap, subst, ◌∙◌, arith, List, [], ◌∷◌, ◌++◌, length, map, Option, Some, None, Bool, true, false, eqb, ltb}
-use Rattle.std.specs.Prelude.{if◌then◌else◌, ◌&&◌, ◌^◌, nat_lt}
+use Rattle.std.specs.Prelude.{if◌then◌else◌, ◌&&◌, ◌^◌, ◌↔◌, nat_lt}
 use Rattle.std.specs.List.{All, list_all}
 use Rattle.std.specs.Cmp.Derive.{both_true}
 use Rattle.std.proofs.lemmas.Bool.{and_parts, eq-eqb, ltb-false, ltb-true}
-use Rattle.std.proofs.lemmas.List.Elements.{All-append, All-cons, All-nil}
+use Rattle.std.proofs.lemmas.List.Elements.{All-append, All-cons, All-head, All-nil, All-tail, All-weaker}
 use Rattle.std.proofs.lemmas.List.Folds.{list_all-append, list_all-map}
 use Rattle.dwc_dwarf.specs.Trees.{TreeValue}
 use Rattle.dwc_dwarf.specs.TreeLaws.{has_short_expressions, have_short_expressions, values_of}
 use Rattle.dwc_output.specs.TreeReading.{entry_or_nothing}
+use Rattle.dwc_output.specs.Versions.{are_short_in, is_old}
 use Rattle.dwc_base.specs.declared.records.Address.{Address as RangeAddress}
 use Rattle.dwc_unit.specs.declared.attributes.Attribute.{Attribute}
 use Rattle.dwc_unit.specs.declared.attributes.AttributeValue.{AttributeValue}
@@ -17,10 +18,10 @@ use Rattle.dwc_unit.specs.declared.attributes.AttributeValue.TheVariants.{Addres
 use Rattle.dwc_unit.specs.declared.attributes.DebugInfoRef.TheVariants.{Entry as entry_of}
 use Rattle.dwc_unit.specs.declared.expressions.Expression.{Expression}
 use Rattle.dwc_unit.specs.GivenTrees.{given_said, attribute_said, tree_entry, given_tree, trees_from, given_trees}
-use Rattle.dwc_unit.specs.GivenUnits.{Addition, GivenEntry, GivenUnit, OrderedUnit, AreBehindParents, AreShortUnits, FitsGivenUnit, HaveShortLists, IsRooted, below, entry_at, in_file_order, lists_of_entries, ordered}
-use Rattle.dwc_unit.specs.Lists.{ended, list_end, lists_of_attributes, location_entry, location_of, locations_in}
-use Rattle.dwc_write.specs.ShortLists.{are_short_values, is_short_location, is_short_unit, is_short_value}
-use Rattle.dwc_write.proofs.ListsFit.{HasShort}
+use Rattle.dwc_unit.specs.GivenUnits.{Addition, GivenEntry, GivenUnit, OrderedUnit, AreBehindParents, AreShortUnits, AreWritable, FitsGivenUnit, HaveShortLists, IsRooted, IsWritable, size_of, version_of, below, entry_at, in_file_order, lists_of_entries, ordered}
+use Rattle.dwc_unit.specs.Lists.{FitsCount, ListEntry, ended, list_end, lists_of_attributes, location_entry, location_of, locations_in}
+use Rattle.dwc_write.specs.ShortLists.{are_short_units, are_short_values, is_short_location, is_short_unit, is_short_value}
+use Rattle.dwc_write.proofs.ListsFit.{HasShort, new-short}
 
 -- ---- file order: what passes of all additions passes of all entries, and the other way round
 
@@ -151,48 +152,85 @@ units-short texts all number (u ∷ us) =
 said-short : (texts : List (List ℕ)) (us : List OrderedUnit) → list_all is_short_unit us ≡ have_short_expressions (given_trees texts us)
 said-short texts us = units-short texts us 0 us
 
+-- A refusal for an expression: a unit is not short, up to version 4.
+pub not-short : (texts : List (List ℕ)) (us : List OrderedUnit) → (are_short_in (version_of us) (given_trees texts us) ≡ false) ↔ ((is_old (version_of us) ≡ true) × (list_all is_short_unit us ≡ false))
+not-short texts us = go (is_old (version_of us)) refl
+  where
+    go : (old : Bool) → is_old (version_of us) ≡ old → ((if old then have_short_expressions (given_trees texts us) else true) ≡ false) ↔ ((is_old (version_of us) ≡ true) × (list_all is_short_unit us ≡ false))
+    go true old = (λ long. (old, said-short texts us ∙ long), λ both. sym (said-short texts us) ∙ both.1)
+    go false new = (λ wrong. absurd (cc), λ both. let wrong : false ≡ true = sym new ∙ both.0 in absurd (cc))
+
+old-short-in : (texts : List (List ℕ)) (us : List OrderedUnit) → is_old (version_of us) ≡ true → are_short_in (version_of us) (given_trees texts us) ≡ have_short_expressions (given_trees texts us)
+old-short-in texts us old = ap (λ b. if b then have_short_expressions (given_trees texts us) else true) old
+
 -- ---- lists of such units
 
-locations-short : (ls : List (RangeAddress × ℕ × Expression)) → list_all is_short_location ls ≡ true → All HasShort (ended (map location_entry ls))
-locations-short [] short = All-cons HasShort list_end [] tt (All-nil HasShort)
-locations-short (l ∷ ls) short =
-    let parts = and_parts (is_short_location l) (list_all is_short_location ls) short in
-    All-cons HasShort (location_entry l) (ended (map location_entry ls)) (ltb-true _ _ parts.0) (locations-short ls parts.1)
+short-count : (old : Bool) (bytes : List ℕ) → length bytes < 2 ^ 16 → FitsCount old bytes
+short-count true bytes short = short
+short-count false bytes short = tt
 
-value-lists : (v : AttributeValue) → is_short_value v ≡ true → All HasShort (locations_in v)
-value-lists (LocationListRef list) short = locations-short list.locations.items short
-value-lists (RangeListRef list) short = All-nil HasShort
-value-lists (Address a) short = All-nil HasShort
-value-lists (Constant form bits) short = All-nil HasShort
-value-lists (Flag b) short = All-nil HasShort
-value-lists (Block bytes) short = All-nil HasShort
-value-lists (Exprloc e) short = All-nil HasShort
-value-lists (StringRef id) short = All-nil HasShort
-value-lists LineProgramRef short = All-nil HasShort
-value-lists (UnitRef id) short = All-nil HasShort
-value-lists (DebugInfoRef reference) short = All-nil HasShort
+module _ (version : ℕ) where
+  abbrev IsFew : ListEntry → Type 0
+  IsFew e = HasShort version e
 
-attributes-lists : (xs : List Attribute) → are_short_values xs ≡ true → All HasShort (lists_of_attributes locations_in xs)
-attributes-lists [] short = All-nil HasShort
-attributes-lists (x ∷ xs) short =
-    let parts = and_parts (is_short_value x.value) (are_short_values xs) short in
-    All-append HasShort (locations_in x.value) (lists_of_attributes locations_in xs) (value-lists x.value parts.0) (attributes-lists xs parts.1)
+  locations-short : (ls : List (RangeAddress × ℕ × Expression)) → list_all is_short_location ls ≡ true → All IsFew (ended (map location_entry ls))
+  locations-short [] short = All-cons IsFew list_end [] tt (All-nil IsFew)
+  locations-short (l ∷ ls) short =
+      let parts = and_parts (is_short_location l) (list_all is_short_location ls) short in
+      All-cons IsFew (location_entry l) (ended (map location_entry ls)) (short-count (is_old version) l.2 (ltb-true _ _ parts.0)) (locations-short ls parts.1)
 
-entries-lists : (gs : List GivenEntry) → list_all (λ g. are_short_values g.attributes) gs ≡ true → HaveShortLists gs
-entries-lists [] short = All-nil HasShort
-entries-lists (g ∷ gs) short =
-    let parts = and_parts (are_short_values g.attributes) (list_all (λ (x : GivenEntry). are_short_values x.attributes) gs) short in
-    All-append HasShort (lists_of_attributes locations_in g.attributes) (lists_of_entries locations_in gs) (attributes-lists g.attributes parts.0) (entries-lists gs parts.1)
+  value-lists : (v : AttributeValue) → is_short_value v ≡ true → All IsFew (locations_in v)
+  value-lists (LocationListRef list) short = locations-short list.locations.items short
+  value-lists (RangeListRef list) short = All-nil IsFew
+  value-lists (Address a) short = All-nil IsFew
+  value-lists (Constant form bits) short = All-nil IsFew
+  value-lists (Flag b) short = All-nil IsFew
+  value-lists (Block bytes) short = All-nil IsFew
+  value-lists (Exprloc e) short = All-nil IsFew
+  value-lists (StringRef id) short = All-nil IsFew
+  value-lists LineProgramRef short = All-nil IsFew
+  value-lists (UnitRef id) short = All-nil IsFew
+  value-lists (DebugInfoRef reference) short = All-nil IsFew
+
+  attributes-lists : (xs : List Attribute) → are_short_values xs ≡ true → All IsFew (lists_of_attributes locations_in xs)
+  attributes-lists [] short = All-nil IsFew
+  attributes-lists (x ∷ xs) short =
+      let parts = and_parts (is_short_value x.value) (are_short_values xs) short in
+      All-append IsFew (locations_in x.value) (lists_of_attributes locations_in xs) (value-lists x.value parts.0) (attributes-lists xs parts.1)
+
+  entries-lists : (gs : List GivenEntry) → list_all (λ g. are_short_values g.attributes) gs ≡ true → HaveShortLists version gs
+  entries-lists [] short = All-nil IsFew
+  entries-lists (g ∷ gs) short =
+      let parts = and_parts (are_short_values g.attributes) (list_all (λ (x : GivenEntry). are_short_values x.attributes) gs) short in
+      All-append IsFew (lists_of_attributes locations_in g.attributes) (lists_of_entries locations_in gs) (attributes-lists g.attributes parts.0) (entries-lists gs parts.1)
 
 short-units : (us : List OrderedUnit) → list_all is_short_unit us ≡ true → AreShortUnits us
-short-units [] short = All-nil (λ u. HaveShortLists u.entries)
+short-units [] short = All-nil (λ u. HaveShortLists u.version u.entries)
 short-units (u ∷ us) short =
     let parts = and_parts (is_short_unit u) (list_all is_short_unit us) short in
-    All-cons (λ (v : OrderedUnit). HaveShortLists v.entries) u us (entries-lists u.entries parts.0) (short-units us parts.1)
+    All-cons (λ (v : OrderedUnit). HaveShortLists v.version v.entries) u us (entries-lists u.version u.entries parts.0) (short-units us parts.1)
+
+-- from version 5 on all are
+pub new-units : (version : ℕ) (us : List OrderedUnit) → is_old version ≡ false → All (λ u. u.version ≡ version) us → AreShortUnits us
+new-units version [] new same = All-nil (λ u. HaveShortLists u.version u.entries)
+new-units version (u ∷ us) new same =
+    let own = ap is_old (All-head (λ (v : OrderedUnit). v.version ≡ version) u us same) ∙ new in
+    All-cons (λ (v : OrderedUnit). HaveShortLists v.version v.entries) u us (new-short u.version (lists_of_entries locations_in u.entries) own) (new-units version us new (All-tail (λ (v : OrderedUnit). v.version ≡ version) u us same))
 
 -- the same of what a test of the given units answers
-pub tested : (texts : List (List ℕ)) (seen us : List GivenUnit) (short : Bool) → seen ≡ us → short ≡ list_all (λ u. is_short_unit (ordered u)) seen → short ≡ have_short_expressions (given_trees texts (map ordered us))
-tested texts seen us short are is = is ∙ ap (list_all (λ (u : GivenUnit). is_short_unit (ordered u))) are ∙ sym (list_all-map is_short_unit ordered us) ∙ said-short texts (map ordered us)
+pub tested : (texts : List (List ℕ)) (version : ℕ) (seen us : List GivenUnit) (short : Bool) → version ≡ version_of (map ordered us) → seen ≡ us → short ≡ are_short_units version seen → short ≡ are_short_in (version_of (map ordered us)) (given_trees texts (map ordered us))
+tested texts version seen us short same are is =
+    let said : list_all (λ u. is_short_unit (ordered u)) us ≡ have_short_expressions (given_trees texts (map ordered us)) = sym (list_all-map is_short_unit ordered us) ∙ said-short texts (map ordered us) in
+    is ∙ ap (λ n. are_short_units n seen) same ∙ ap (are_short_units (version_of (map ordered us))) are ∙ ap (λ b. if is_old (version_of (map ordered us)) then b else true) said
 
-pub short-trees : (texts : List (List ℕ)) (us : List OrderedUnit) → have_short_expressions (given_trees texts us) ≡ true → AreShortUnits us
-short-trees texts us short = short-units us (said-short texts us ∙ short)
+-- Units of one version that are not refused for an expression are short.
+pub short-trees : (texts : List (List ℕ)) (us : List OrderedUnit) → All (λ u. u.version ≡ version_of us) us → are_short_in (version_of us) (given_trees texts us) ≡ true → AreShortUnits us
+short-trees texts us same short = go (is_old (version_of us)) refl
+  where
+    go : (old : Bool) → is_old (version_of us) ≡ old → AreShortUnits us
+    go true old = short-units us (said-short texts us ∙ sym (old-short-in texts us old) ∙ short)
+    go false new = new-units (version_of us) us new same
+
+-- those that can be written
+pub short-writable : (texts : List (List ℕ)) (us : List OrderedUnit) → AreWritable us → are_short_in (version_of us) (given_trees texts us) ≡ true → AreShortUnits us
+short-writable texts us writable short = short-trees texts us (All-weaker (IsWritable (version_of us) (size_of us)) (λ u. u.version ≡ version_of us) (λ u h. h.version) us writable) short

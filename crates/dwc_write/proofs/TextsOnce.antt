@@ -34,7 +34,7 @@ use Rattle.dwc_write.specs.SpelledOutput.{all_places, spelled_sections, units_pl
 use Rattle.dwc_unit.specs.GivenLines.{FitsLines}
 use Rattle.dwc_unit.specs.Lists.{behind_attributes, no_lists}
 use Rattle.dwc_unit.specs.GivenUnits.{AreWritable, FitsOrdered, GivenEntry, OrderedUnit, Places, constant_of, shapes_in, size_of, written_of}
-use Rattle.dwc_write.specs.Layouts.{AllPlaces, offset_of_text, behind_unit, offsets_by_number, places_in, written_lines, written_unit, written_units}
+use Rattle.dwc_write.specs.Layouts.{AllPlaces, offset_of_text, behind_unit, offsets_by_number, places_in, written_unit, written_units, lists_from, table_of}
 use Rattle.dwc_write.specs.ReadBack.{Contents, given_contents, given_values, read_contents}
 use Rattle.dwc_unit.specs.TextTables.{AreTexts}
 use Rattle.dwc_unit.specs.UsedTexts.{HaveTexts, text_numbered, text_of_value, text_places, texts_named, texts_of_attributes, texts_of_entries}
@@ -162,10 +162,11 @@ record IsReadWith (offsets : List (Option ℕ)) (u : OrderedUnit) (v : ReadUnit)
 read-with : (order : Endian) (size : ℕ) (all : AllPlaces) (place a l : ℕ) (r : ListPlaces) (us : List OrderedUnit) → AllZip (IsReadWith all.texts) us (read_units order size place (written_units order size all a l r us))
 read-with order size all place a l r [] = tt
 read-with order size all place a l r (u ∷ us) =
-    let p = places_in all (offsets_by_number order size u) l in
+    let p = places_in all u.version (offsets_by_number order size u) l in
+    let first = lists_from u.version u.entries r in
     let unit = written_unit size r p a u in (
-      record { next = behind_attributes size; lists = r; places = p; placed = λ n. refl; contents = places-contents order size (shaped unit.entries) (place + header_length) ∙ contents-given (behind_attributes size) p r (shapes_in u) u.entries },
-      read-with order size all (place + length (placed_unit_bytes order size unit)) (a + length (table_bytes unit.table)) (l + length (lines_bytes order size (written_lines u.lines))) (behind_unit order size r u) us,
+      record { next = behind_attributes u.version size; lists = first; places = p; placed = λ n. refl; contents = places-contents order size (shaped unit.entries) (place + header_length u.version) ∙ contents-given (behind_attributes u.version size) p first (shapes_in u) u.entries },
+      read-with order size all (place + length (placed_unit_bytes order size unit)) (a + length (table_bytes unit.table)) (l + length (lines_bytes order size (table_of all u))) (behind_unit order size r u) us,
     )
 
 module _ (texts : List (List ℕ)) (offsets : List (Option ℕ)) (s : Sections) where
@@ -217,7 +218,7 @@ texts-once order texts us writable known table fits lines sound =
     let size = size_of us in
     let places = all_places order texts us in
     let s = output_sections order (spelled_sections order texts us) in
-    let spelled = are-spelled order texts us writable fits lines sound in
+    let spelled = are-spelled order texts us writable table fits lines sound in
     let P : ℕ → List ℕ → Type 0 = λ n bytes. text_in order bytes (offset_of_text (text_places texts us) n) ≡ Ok (text_numbered texts n) in
     let readable : All (λ n. P n (s.bytes Str)) (texts_named us) =
     λ k d within. subst (P _) (sym spelled.holds.strings_are) (text-read order texts us _ table.plain (known k d within) (all-used (texts_named us) [] k d within)) in

@@ -7,45 +7,50 @@ use Rattle.std.proofs.Math.Facts.{sfits_to_z}
 use Rattle.std.proofs.lemmas.Bool.{eqb-true, ltb-true, ltb-false}
 use Rattle.std.proofs.lemmas.Int.{ints}
 use Rattle.std.proofs.lemmas.List.{length-replicate, length-map}
-use Rattle.std.proofs.lemmas.List.Elements.{All-head, All-tail, All-nil, All-weaker}
+use Rattle.std.proofs.lemmas.List.Elements.{All-cons, All-head, All-tail, All-nil, All-weaker}
 use Rattle.std.proofs.lemmas.List.Sums.{sum_by-cons, sum_by-append}
 use Rattle.dwc_base.specs.declared.records.Endian.{Endian}
 use Rattle.dwc_base.specs.declared.records.Endian.TheVariants.{Little}
 use Rattle.dwc_base.specs.declared.records.LineRow.{LineRow}
 use Rattle.dwc_base.specs.declared.section_name.SectionName.{SectionName}
-use Rattle.dwc_base.specs.declared.section_name.SectionName.TheVariants.{Abbrev, Info, Line, Loc, Ranges}
-use Rattle.dwc_base.specs.declared.constants.TheConstants.{DW_FORM_implicit_const, DW_FORM_data1, DW_FORM_data2, DW_FORM_data4, DW_FORM_data8, DW_FORM_sdata, DW_FORM_udata}
+use Rattle.dwc_base.specs.declared.section_name.SectionName.TheVariants.{Abbrev, Info, Line, LineStr, Loc, Loclists, Ranges, Rnglists}
+use Rattle.dwc_base.specs.declared.constants.TheConstants.{DW_UT_compile, DW_FORM_implicit_const, DW_FORM_data1, DW_FORM_data2, DW_FORM_data4, DW_FORM_data8, DW_FORM_sdata, DW_FORM_udata}
 use Rattle.dwc_base.specs.Abbreviations.{Declaration}
-use Rattle.dwc_dwarf.specs.LineHeaders.{LineFile}
+use Rattle.dwc_dwarf.specs.LineHeaders.{Instruction, LineFile}
+use Rattle.dwc_output.specs.NewWidest.{widest_header_5}
+use Rattle.dwc_output.specs.Versions.{files_written, is_old}
 use Rattle.dwc_output.specs.Widest.{variable_bytes, widest_declaration, widest_header, widest_image, widest_row}
 use Rattle.dwc_output.specs.WidestTrees.{constant_bytes}
 use Rattle.dwc_base.specs.NumberBytes.{uleb_bytes, sleb_bytes, number_bytes}
 use Rattle.dwc_section.specs.Spelled.{block_bytes, text_bytes}
 use Rattle.dwc_section.specs.SpelledAddresses.{address_bytes, stored}
 use Rattle.dwc_unit.specs.SpelledTables.{FitsSpec, implicit_bytes, spec_bytes, declaration_bytes, flag_of, table_bytes}
-use Rattle.dwc_unit.specs.SpelledUnits.{as_data1, as_data2, as_data4, as_data8, as_sdata, as_udata, written_bytes, attribute_bytes, next_depth, shaped, entry_bytes, entries_bytes, unit_body}
-use Rattle.dwc_unit.specs.SpelledLines.{FitsFile, FitsRow, WrittenSequence, first_row, differs, bytes_when, extended_bytes, file_bytes, line_fields_bytes, line_body, program_bytes, row_instructions, rows_instructions, sequences_instructions}
+use Rattle.dwc_unit.specs.SpelledUnits.{as_data1, as_data2, as_data4, as_data8, as_sdata, as_udata, written_bytes, attribute_bytes, next_depth, shaped, WrittenEntry, behind_version, entry_bytes, entries_bytes, header_length, unit_body, unit_bytes}
+use Rattle.dwc_unit.specs.SpelledLines.{FitsFile, FitsRow, WrittenSequence, first_row, differs, bytes_when, extended_bytes, file_bytes, line_fields_bytes, line_body, line_table_bytes, program_bytes, row_instructions, rows_instructions, sequences_instructions}
 use Rattle.dwc_write.specs.SpelledSections.{WrittenTable, placed_unit_bytes, tables_bytes, info_bytes, one_table_bytes, lines_bytes}
 use Rattle.dwc_write.specs.SpelledRelocations.{sequence_bytes}
+use Rattle.dwc_write.specs.PathTables.{path_bytes, path_directories_bytes, path_fields_bytes, path_file_bytes, path_files_bytes, path_table_body, path_table_bytes, place_of_path}
 use Rattle.dwc_unit.specs.declared.attributes.Attribute.{Attribute}
 use Rattle.dwc_unit.specs.declared.attributes.AttributeValue.{AttributeValue}
 use Rattle.dwc_unit.specs.declared.attributes.AttributeValue.TheVariants.{Address, Constant, Flag, Block, Exprloc, StringRef, LineProgramRef, RangeListRef, LocationListRef, UnitRef, DebugInfoRef}
 use Rattle.dwc_unit.specs.declared.attributes.DebugInfoRef.TheVariants.{Entry as entry_of}
 use Rattle.dwc_unit.specs.declared.attributes.AttributeForm.{AttributeForm}
 use Rattle.dwc_unit.specs.GivenLines.{FitsLines, FitsSequences, FitsGivenSequence}
-use Rattle.dwc_unit.specs.GivenUnits.{GivenEntry, OrderedUnit, Places, EntryShape, AreBelow, IsTree, IsOfSize, IsWritable, AreWritable, FitsAttribute, FitsMemory, FitsValue, FitsEntry, FitsOrdered, size_of, constant_of, is_constant_form, constant_bound, written_of, form_of, first_depth, shape_of, shapes_of, place_in, with_use, first_uses, code_in, spec_of_form, numbered, shapes_in, written_attribute, written_attributes, written_entries}
-use Rattle.dwc_write.specs.Layouts.{AllPlaces, offsets_by_number, places_in, behind_unit, written_unit, written_lines, written_units, written_tables}
-use Rattle.dwc_write.specs.SpelledOutput.{abbrev_bytes, all_info_bytes, all_lines_bytes, all_lists_bytes, bytes_of}
+use Rattle.dwc_unit.specs.GivenUnits.{GivenEntry, OrderedUnit, Places, EntryShape, AreBelow, IsTree, IsOfSize, IsWritable, AreWritable, FitsAttribute, FitsMemory, FitsValue, FitsEntry, FitsOrdered, size_of, version_of, constant_of, is_constant_form, constant_bound, written_of, form_of, first_depth, shape_of, shapes_of, place_in, with_use, first_uses, code_in, spec_of_form, numbered, shapes_in, written_attribute, written_attributes, written_entries}
+use Rattle.dwc_write.specs.Layouts.{AllPlaces, lists_from, offsets_by_number, places_in, behind_unit, table_of, written_unit, written_units, written_tables}
+use Rattle.dwc_write.specs.SpelledOutput.{all_lists_bytes, bytes_of, names_bytes}
 use Rattle.dwc_unit.specs.declared.lists.ListPlaces.{ListPlaces}
-use Rattle.dwc_unit.specs.Lists.{behind_attributes, locations_in, no_lists, ranges_in}
-use Rattle.dwc_write.proofs.WidestLists.{lists-within}
-use Rattle.dwc_unit.specs.WidestGiven.{widest_value, widest_entry, lists_of, widest_table_for, widest_unit, widest_given}
+use Rattle.dwc_unit.specs.LineNames.{own_directory}
+use Rattle.dwc_unit.specs.Lists.{ListEntry, behind_attributes, locations_in, no_lists, ranges_in}
+use Rattle.dwc_section.specs.Writers.{most_bytes}
+use Rattle.dwc_write.proofs.WidestLists.{AreCounted, lists-within, locations-small, ranges-small}
+use Rattle.dwc_unit.specs.WidestGiven.{widest_contribution, widest_value, widest_entry, lists_of, widest_table_for, widest_unit, widest_given}
 use Rattle.dwc_section.proofs.ReadNumbers.{number_bytes-length, uleb_bytes-length, sleb_bytes-small}
 use Rattle.dwc_unit.proofs.ReadWritten.{row-bytes, rows-bytes-end, rows-bytes-more}
-use Rattle.dwc_write.proofs.ReadRelocations.{sequences-bytes}
+use Rattle.dwc_write.proofs.LineRelocations.{sequences-bytes}
 use Rattle.dwc_write.proofs.SequenceLaws.{sequence-bytes}
 use Rattle.dwc_write.proofs.EntriesLaws.{code-there, next-first}
-use Rattle.dwc_write.proofs.ReadBackLaws.{FitsShape, vec-short, uses-fit, uses-length, lines_for, lines-are, lengths-both}
+use Rattle.dwc_write.proofs.ReadBackLaws.{FitsShape, vec-short, uses-fit, uses-length, lengths-both}
 use Rattle.dwc_section.proofs.LebSizes.{uleb-10, sleb-10}
 
 -- ---- signed numbers
@@ -229,15 +234,25 @@ tree-widest order size next p lists (e ∷ es) short few tree fits =
     below-root : (depth : ℕ) (es : List GivenEntry) → depth ≡ 0 → AreBelow 0 es → AreBelow depth es
     below-root depth es is below = let P : ℕ → Type 0 = λ n. AreBelow n es in subst P (sym is) below
 
+-- a unit behind its header
+unit-length : (version : ℕ) (order : Endian) (size a : ℕ) (es : List WrittenEntry) → length (unit_bytes version order size a es) ≡ header_length version + length (entries_bytes order size es)
+unit-length version order size a es =
+    let body = unit_body version order size a es in
+    omega (arith, behind (is_old version), number_bytes-length order 4 (length body), number_bytes-length order 2 version, length-append (number_bytes order 4 (length body)) body, length-append (number_bytes order 2 version) (behind_version version order size a es))
+  where
+    behind : (old : Bool)
+        → length (if old then number_bytes order 4 a ++ ((size ∷ []) ++ entries_bytes order size es) else (DW_UT_compile ∷ size ∷ []) ++ (number_bytes order 4 a ++ entries_bytes order size es)) + 6 ≡ (if old then 11 else 12) + length (entries_bytes order size es)
+    behind true = omega (arith, number_bytes-length order 4 a, length-append (number_bytes order 4 a) ((size ∷ []) ++ entries_bytes order size es))
+    behind false = omega (arith, number_bytes-length order 4 a, length-append (number_bytes order 4 a) (entries_bytes order size es))
+
 info-widest : (order : Endian) (size a : ℕ) (r : ListPlaces) (p : Places) (u : OrderedUnit) → u.address_size ≡ size → FitsOrdered u → length (placed_unit_bytes order size (written_unit size r p a u)) ≤ widest_unit Info u
 info-widest order size a r p u same fits =
     let few_entries = fits.few in
     let few : length (shapes_in u) < 2 ^ 64 = omega (arith, few_entries, uses-length [] u.entries) in
     let P : ℕ → Type 0 = λ n. All (FitsEntry n) u.entries in
-    let entries = tree-widest order size (behind_attributes size) p r u.entries (size-short u size same fits.size) few fits.tree (subst P same fits.entries) in
-    let bytes = entries_bytes order size (written_entries (behind_attributes size) p r (shapes_in u) u.entries) in
-    let body = unit_body order size a (written_entries (behind_attributes size) p r (shapes_in u) u.entries) in
-    omega (arith, entries, number_bytes-length order 4 (length body), number_bytes-length order 2 4, number_bytes-length order 4 a, length-append (number_bytes order 4 (length body)) body, length-append (number_bytes order 2 4) (number_bytes order 4 a ++ ((size ∷ []) ++ bytes)), length-append (number_bytes order 4 a) ((size ∷ []) ++ bytes))
+    let lists = lists_from u.version u.entries r in
+    let entries = tree-widest order size (behind_attributes u.version size) p lists u.entries (size-short u size same fits.size) few fits.tree (subst P same fits.entries) in
+    omega (arith, entries, unit-length u.version order size a (written_entries (behind_attributes u.version size) p lists (shapes_in u) u.entries))
 
 -- ---- .debug_line
 
@@ -300,23 +315,98 @@ fields-widest ds fs fits =
 table-lengths : (a b c d e : List ℕ) → length (a ++ (b ++ ((c ++ d) ++ e))) ≡ length a + (length b + (length c + (length d + length e)))
 table-lengths a b c d e = simp (length-append) (omega arith)
 
-lines-widest : (order : Endian) (size : ℕ) (u : OrderedUnit) → u.address_size ≡ size → FitsOrdered u → FitsLines u.lines → length (lines_bytes order size (written_lines u.lines)) ≤ widest_unit Line u
-lines-widest order size u same fits lines =
-    let P : ℕ → Type 0 = λ n. IsOfSize n u.lines.address_size in
-    rw (lines-are u.lines) (go u.lines.address_size (subst P same fits.lines) lines.sequences)
+-- a table up to version 4, whose program is no longer than some size
+old-table-widest : (order : Endian) (size : ℕ) (ds : List (List ℕ)) (fs : List LineFile) (is : List Instruction) (n : ℕ) → All FitsFile fs → length (program_bytes order size is) ≤ n → length (line_table_bytes order size ds fs is) ≤ widest_header ds fs + n
+old-table-widest order size ds fs is n fits short =
+    let header = fields-widest ds fs fits in
+    let fields = line_fields_bytes ds fs in
+    let body = line_body order size ds fs is in
+    omega (arith, short, header, table-lengths (number_bytes order 4 (length body)) (number_bytes order 2 4) (number_bytes order 4 (length fields)) fields (program_bytes order size is), number_bytes-length order 4 (length body), number_bytes-length order 2 4, number_bytes-length order 4 (length fields))
+
+-- names by offsets, and files with the numbers of their directories
+names-widest : (order : Endian) (texts names : List (List ℕ)) → length (flat_map (path_bytes order texts) names) ≡ length names * 4
+names-widest order texts [] = refl
+names-widest order texts (n ∷ ns) = omega (arith, names-widest order texts ns, number_bytes-length order 4 (place_of_path 0 texts n), length-append (path_bytes order texts n) (flat_map (path_bytes order texts) ns))
+
+named-widest : (order : Endian) (texts : List (List ℕ)) (fs : List LineFile) → All FitsFile fs → length (flat_map (path_file_bytes order texts) fs) ≤ length fs * 14
+named-widest order texts [] fits = omega arith
+named-widest order texts (f ∷ fs) fits =
+    let others = named-widest order texts fs (All-tail FitsFile f fs fits) in
+    let number = uleb-10 f.directory (All-head FitsFile f fs fits).directory in
+    omega (arith, others, number, number_bytes-length order 4 (place_of_path 0 texts f.name), length-append (path_bytes order texts f.name) (uleb_bytes f.directory), length-append (path_file_bytes order texts f) (flat_map (path_file_bytes order texts) fs))
+
+-- the first file stands twice
+files-fit : (fs : List LineFile) → All FitsFile fs → All FitsFile (files_written 5 fs)
+files-fit [] fits = fits
+files-fit (f ∷ fs) fits = All-cons FitsFile f (f ∷ fs) (All-head FitsFile f fs fits) fits
+
+path-fields-widest : (order : Endian) (texts : List (List ℕ)) (own : List ℕ) (ds : List (List ℕ)) (fs : List LineFile) → All FitsFile fs → widest_header_5 ds fs ≤ most_bytes → length (path_fields_bytes order texts own ds fs) + 12 ≤ widest_header_5 ds fs
+path-fields-widest order texts own ds fs fits small =
+    let written = files_written 5 fs in
+    let directories = flat_map (path_bytes order texts) (own ∷ ds) in
+    let files = flat_map (path_file_bytes order texts) written in
+    let many = uleb-10 (length (own ∷ ds)) (omega (arith, small)) in
+    let more = uleb-10 (length written) (omega (arith, small)) in
+    let first = path_directories_bytes order texts (own ∷ ds) in
+    let second = path_files_bytes order texts written in
+    omega (
+      arith,
+      many,
+      more,
+      names-widest order texts (own ∷ ds),
+      named-widest order texts written (files-fit fs fits),
+      length-append first second,
+      length-append (uleb_bytes (length (own ∷ ds))) directories,
+      length-append (uleb_bytes (length written)) files,
+    )
+
+path-lengths : (a b c d e f : List ℕ) → length (a ++ (b ++ (c ++ ((d ++ e) ++ f)))) ≡ length a + (length b + (length c + (length d + (length e + length f))))
+path-lengths a b c d e f = simp (length-append) (omega arith)
+
+-- one from version 5 on
+path-table-widest : (order : Endian) (size : ℕ) (texts : List (List ℕ)) (own : List ℕ) (ds : List (List ℕ)) (fs : List LineFile) (is : List Instruction) (n : ℕ) → All FitsFile fs → length (program_bytes order size is) ≤ n → widest_header_5 ds fs ≤ most_bytes
+    → length (path_table_bytes order size texts own ds fs is) ≤ widest_header_5 ds fs + n
+path-table-widest order size texts own ds fs is n fits short small =
+    let header = path-fields-widest order texts own ds fs fits small in
+    let fields = path_fields_bytes order texts own ds fs in
+    let body = path_table_body order size texts own ds fs is in
+    omega (
+      arith,
+      short,
+      header,
+      path-lengths (number_bytes order 4 (length body)) (number_bytes order 2 5) (size ∷ 0 ∷ []) (number_bytes order 4 (length fields)) fields (program_bytes order size is),
+      number_bytes-length order 4 (length body),
+      number_bytes-length order 2 5,
+      number_bytes-length order 4 (length fields),
+    )
+
+one-table-widest : (order : Endian) (size : ℕ) (t : WrittenTable) (n : ℕ) → All FitsFile t.files → length (program_bytes order size (sequences_instructions t.sequences)) ≤ n
+    → (if is_old t.version then widest_header t.directories t.files else widest_header_5 t.directories t.files) + n ≤ most_bytes
+    → length (one_table_bytes order size t) ≤ (if is_old t.version then widest_header t.directories t.files else widest_header_5 t.directories t.files) + n
+one-table-widest order size t n fits short small = go (is_old t.version) small
   where
-    go : (n : Option ℕ) → IsOfSize size n → FitsSequences n u.lines.sequences u.lines.begun → length (lines_bytes order size (lines_for n u.lines)) ≤ widest_table_for n u.lines
-    go None sized sequences = omega arith
-    go (Some n) sized sequences =
+    go : (old : Bool) → (if old then widest_header t.directories t.files else widest_header_5 t.directories t.files) + n ≤ most_bytes
+        → length (if old then line_table_bytes order size t.directories t.files (sequences_instructions t.sequences) else path_table_bytes order size t.texts t.own t.directories t.files (sequences_instructions t.sequences))
+        ≤ (if old then widest_header t.directories t.files else widest_header_5 t.directories t.files) + n
+    go true small = old-table-widest order size t.directories t.files (sequences_instructions t.sequences) n fits short
+    go false small = path-table-widest order size t.texts t.own t.directories t.files (sequences_instructions t.sequences) n fits short (omega (arith, small))
+
+lines-widest : (order : Endian) (size : ℕ) (places : AllPlaces) (u : OrderedUnit) → u.address_size ≡ size → FitsOrdered u → FitsLines u.lines → widest_unit Line u ≤ most_bytes → length (lines_bytes order size (table_of places u)) ≤ widest_unit Line u
+lines-widest order size places u same fits lines small =
+    let P : ℕ → Type 0 = λ n. IsOfSize n u.lines.address_size in
+    go u.lines.address_size (subst P same fits.lines) lines.sequences small
+  where
+    go : (n : Option ℕ) → IsOfSize size n → FitsSequences n u.lines.sequences u.lines.begun → widest_table_for u.version n u.lines ≤ most_bytes
+        → length (lines_bytes order size (elim n [ None ↦ [] | Some m ↦ record { version = u.version; texts = places.names; own = own_directory places.table u; directories = u.lines.directories; files = u.lines.files; sequences = u.lines.sequences } ∷ [] ])) ≤ widest_table_for u.version n u.lines
+    go None sized sequences small = omega arith
+    go (Some n) sized sequences small =
         let P : ℕ → Type 0 = λ m. All (FitsGivenSequence m) u.lines.sequences in
         let short = size-short u size same fits.size in
-        let t : WrittenTable = record { directories = u.lines.directories; files = u.lines.files; sequences = u.lines.sequences } in
+        let t : WrittenTable = record { version = u.version; texts = places.names; own = own_directory places.table u; directories = u.lines.directories; files = u.lines.files; sequences = u.lines.sequences } in
         let qs = flat-widest (sequence_bytes order size) (λ q. widest_image (length q.rows)) (FitsGivenSequence size) (λ q h. sequence-widest order size q short h) u.lines.sequences (subst P sized sequences.0) in
-        let header = fields-widest t.directories t.files lines.files in
-        let is = sequences_instructions t.sequences in
-        let fields = line_fields_bytes t.directories t.files in
-        let body = line_body order size t.directories t.files is in
-        omega (arith, qs, header, ap length (sequences-bytes order size t.sequences), table-lengths (number_bytes order 4 (length body)) (number_bytes order 2 4) (number_bytes order 4 (length fields)) fields (program_bytes order size is), number_bytes-length order 4 (length body), number_bytes-length order 2 4, number_bytes-length order 4 (length fields), length-append (one_table_bytes order size t) [])
+        let program = ap length (sequences-bytes order size u.lines.sequences) in
+        let table = one-table-widest order size t (sum_by (λ q. widest_image (length q.rows)) u.lines.sequences) lines.files (omega (arith, qs, program)) small in
+        omega (arith, table, length-append (one_table_bytes order size t) [])
 
 -- ---- all units
 
@@ -325,40 +415,94 @@ tables-within order size a l r units [] fits = omega arith
 tables-within order size a l r units (u ∷ us) fits =
     let here = table-widest u (All-head FitsOrdered u us fits) in
     let table = table_bytes (numbered 1 (shapes_in u)) in
-    let rest = written_units order size units (a + length table) (l + length (lines_bytes order size (written_lines u.lines))) (behind_unit order size r u) us in
-    omega (arith, here, tables-within order size (a + length table) (l + length (lines_bytes order size (written_lines u.lines))) (behind_unit order size r u) units us (All-tail FitsOrdered u us fits), length-append table (tables_bytes rest), sum_by-cons (widest_unit Abbrev) u us)
+    let lines_at = l + length (lines_bytes order size (table_of units u)) in
+    let rest = written_units order size units (a + length table) lines_at (behind_unit order size r u) us in
+    omega (arith, here, tables-within order size (a + length table) lines_at (behind_unit order size r u) units us (All-tail FitsOrdered u us fits), length-append table (tables_bytes rest), sum_by-cons (widest_unit Abbrev) u us)
 
 pub info-within : (order : Endian) (size a l : ℕ) (r : ListPlaces) (units : AllPlaces) (us : List OrderedUnit) → All (λ u. u.address_size ≡ size) us → All FitsOrdered us → length (info_bytes order size (written_units order size units a l r us)) ≤ widest_given Info us
 info-within order size a l r units [] sized fits = omega arith
 info-within order size a l r units (u ∷ us) sized fits =
-    let p = places_in units (offsets_by_number order size u) l in
+    let p = places_in units u.version (offsets_by_number order size u) l in
     let here = info-widest order size a r p u (All-head (λ (v : OrderedUnit). v.address_size ≡ size) u us sized) (All-head FitsOrdered u us fits) in
     let at = a + length (table_bytes (numbered 1 (shapes_in u))) in
-    let lines_at = l + length (lines_bytes order size (written_lines u.lines)) in
+    let lines_at = l + length (lines_bytes order size (table_of units u)) in
     let lists_at = behind_unit order size r u in
     omega (arith, here, info-within order size at lines_at lists_at units us (All-tail (λ (v : OrderedUnit). v.address_size ≡ size) u us sized) (All-tail FitsOrdered u us fits), length-append (placed_unit_bytes order size (written_unit size r p a u)) (info_bytes order size (written_units order size units at lines_at lists_at us)), sum_by-cons (widest_unit Info) u us)
 
-lines-within : (order : Endian) (size : ℕ) (us : List OrderedUnit) → All (λ u. u.address_size ≡ size) us → All FitsOrdered us → All (λ u. FitsLines u.lines) us → length (lines_bytes order size (written_tables us)) ≤ widest_given Line us
-lines-within order size [] sized fits lines = omega arith
-lines-within order size (u ∷ us) sized fits lines =
-    let here = lines-widest order size u (All-head (λ (v : OrderedUnit). v.address_size ≡ size) u us sized) (All-head FitsOrdered u us fits) (All-head (λ (v : OrderedUnit). FitsLines v.lines) u us lines) in
-    let others = lines-within order size us (All-tail (λ (v : OrderedUnit). v.address_size ≡ size) u us sized) (All-tail FitsOrdered u us fits) (All-tail (λ (v : OrderedUnit). FitsLines v.lines) u us lines) in
-    omega (arith, here, others, lengths-both (one_table_bytes order size) (written_lines u.lines) (written_tables us), sum_by-cons (widest_unit Line) u us)
+lines-within : (order : Endian) (size : ℕ) (places : AllPlaces) (us : List OrderedUnit) → All (λ u. u.address_size ≡ size) us → All FitsOrdered us → All (λ u. FitsLines u.lines) us → widest_given Line us ≤ most_bytes → length (lines_bytes order size (written_tables places us)) ≤ widest_given Line us
+lines-within order size places [] sized fits lines small = omega arith
+lines-within order size places (u ∷ us) sized fits lines small =
+    let sum = sum_by-cons (widest_unit Line) u us in
+    let here = lines-widest order size places u (All-head (λ (v : OrderedUnit). v.address_size ≡ size) u us sized) (All-head FitsOrdered u us fits) (All-head (λ (v : OrderedUnit). FitsLines v.lines) u us lines) (omega (arith, small, sum)) in
+    let others = lines-within order size places us (All-tail (λ (v : OrderedUnit). v.address_size ≡ size) u us sized) (All-tail FitsOrdered u us fits) (All-tail (λ (v : OrderedUnit). FitsLines v.lines) u us lines) (omega (arith, small, sum)) in
+    omega (arith, here, others, lengths-both (one_table_bytes order size) (table_of places u) (written_tables places us), sum)
 
 sizes-short : (us : List OrderedUnit) → All FitsOrdered us → size_of us ≤ 8
 sizes-short [] fits = omega arith
 sizes-short (u ∷ us) fits = size-short u u.address_size refl (All-head FitsOrdered u us fits).size
 
--- A section of given units is no longer than its widest size.
-pub within-widest : (order : Endian) (units : AllPlaces) (us : List OrderedUnit) (name : SectionName) → AreWritable us → All FitsOrdered us → All (λ u. FitsLines u.lines) us → length (bytes_of order units us name) ≤ widest_given name us
-within-widest order units us name writable fits lines =
-    let sized : All (λ u. u.address_size ≡ size_of us) us = All-weaker (IsWritable (size_of us)) (λ u. u.address_size ≡ size_of us) (λ u h. h.size) us writable in
-    go name (tables-within order (size_of us) 0 0 no_lists units us fits) (info-within order (size_of us) 0 0 no_lists units us sized fits) (lines-within order (size_of us) us sized fits lines) (lists-within order (size_of us) (sizes-short us fits) ranges_in us) (lists-within order (size_of us) (sizes-short us fits) locations_in us)
+-- sums over units of a version
+sums-of : (f g : OrderedUnit → ℕ) (version : ℕ) (us : List OrderedUnit) → ((u : OrderedUnit) → u.version ≡ version → f u ≡ g u) → All (λ u. u.version ≡ version) us → sum_by f us ≡ sum_by g us
+sums-of f g version [] each same = refl
+sums-of f g version (u ∷ us) each same =
+    let here = each u (All-head (λ (v : OrderedUnit). v.version ≡ version) u us same) in
+    omega (arith, here, sum_by-cons f u us, sum_by-cons g u us, sums-of f g version us each (All-tail (λ (v : OrderedUnit). v.version ≡ version) u us same))
+
+-- the lists of a kind, in a section of its own up to version 4 and in another one from version 5 on
+module _ (order : Endian) (us : List OrderedUnit) (lists : AttributeValue → List ListEntry) (counted : AreCounted lists) (writable : AreWritable us) (fits : All FitsOrdered us) where
+  all-lists : sum_by (widest_contribution lists) us ≤ most_bytes → length (all_lists_bytes lists order us) ≤ sum_by (widest_contribution lists) us
+  all-lists small = lists-within order (size_of us) (sizes-short us fits) lists counted us (All-weaker (IsWritable (version_of us) (size_of us)) (λ u. u.address_size ≡ size_of us) (λ u h. h.size) us writable) fits small
+
+  one-version : All (λ u. u.version ≡ version_of us) us
+  one-version = All-weaker (IsWritable (version_of us) (size_of us)) (λ u. u.version ≡ version_of us) (λ u h. h.version) us writable
+
+  old-lists : sum_by (λ u. if is_old u.version then widest_contribution lists u else 0) us ≤ most_bytes → length (if is_old (version_of us) then all_lists_bytes lists order us else []) ≤ sum_by (λ u. if is_old u.version then widest_contribution lists u else 0) us
+  old-lists small = go (is_old (version_of us)) refl
+    where
+      go : (old : Bool) → is_old (version_of us) ≡ old → length (if old then all_lists_bytes lists order us else []) ≤ sum_by (λ u. if is_old u.version then widest_contribution lists u else 0) us
+      go true old =
+          let sum = sums-of (λ u. if is_old u.version then widest_contribution lists u else 0) (widest_contribution lists) (version_of us) us (λ u is. ap (λ b. if b then widest_contribution lists u else 0) (ap is_old is ∙ old)) one-version in
+          omega (arith, sum, all-lists (omega (arith, sum, small)))
+      go false new = omega arith
+
+  new-lists : sum_by (λ u. if is_old u.version then 0 else widest_contribution lists u) us ≤ most_bytes → length (if is_old (version_of us) then [] else all_lists_bytes lists order us) ≤ sum_by (λ u. if is_old u.version then 0 else widest_contribution lists u) us
+  new-lists small = go (is_old (version_of us)) refl
+    where
+      go : (old : Bool) → is_old (version_of us) ≡ old → length (if old then [] else all_lists_bytes lists order us) ≤ sum_by (λ u. if is_old u.version then 0 else widest_contribution lists u) us
+      go true old = omega arith
+      go false new =
+          let sum = sums-of (λ u. if is_old u.version then 0 else widest_contribution lists u) (widest_contribution lists) (version_of us) us (λ u is. ap (λ b. if b then 0 else widest_contribution lists u) (ap is_old is ∙ new)) one-version in
+          omega (arith, sum, all-lists (omega (arith, sum, small)))
+
+-- the widest size of a section of units that have some places; the names of line tables stand there already
+abbrev pub widest_placed : AllPlaces → SectionName → List OrderedUnit → ℕ
+widest_placed places LineStr us = length (names_bytes places)
+widest_placed places name us = widest_given name us
+
+-- A section of given units is no longer than its widest size, where that is no more than a section holds.
+pub within-widest : (order : Endian) (units : AllPlaces) (us : List OrderedUnit) (name : SectionName) → AreWritable us → All FitsOrdered us → All (λ u. FitsLines u.lines) us → widest_placed units name us ≤ most_bytes → length (bytes_of order units us name) ≤ widest_placed units name us
+within-widest order units us name writable fits lines small = go name small
   where
-    go : (n : SectionName) → length (abbrev_bytes order units us) ≤ widest_given Abbrev us → length (all_info_bytes order units us) ≤ widest_given Info us → length (all_lines_bytes order us) ≤ widest_given Line us → length (all_lists_bytes ranges_in order us) ≤ widest_given Ranges us → length (all_lists_bytes locations_in order us) ≤ widest_given Loc us → length (bytes_of order units us n) ≤ widest_given n us
-    go Abbrev a i l v k = a
-    go Info a i l v k = i
-    go Line a i l v k = l
-    go Ranges a i l v k = v
-    go Loc a i l v k = k
-    go _ a i l v k = omega arith
+    sized : All (λ u. u.address_size ≡ size_of us) us
+    sized = All-weaker (IsWritable (version_of us) (size_of us)) (λ u. u.address_size ≡ size_of us) (λ u h. h.size) us writable
+
+    go : (n : SectionName) → widest_placed units n us ≤ most_bytes → length (bytes_of order units us n) ≤ widest_placed units n us
+    go Abbrev small = tables-within order (size_of us) 0 0 no_lists units us fits
+    go Info small = info-within order (size_of us) 0 0 no_lists units us sized fits
+    go Line small = lines-within order (size_of us) units us sized fits lines small
+    go LineStr small = omega arith
+    go Ranges small = old-lists order us ranges_in ranges-small writable fits small
+    go Loc small = old-lists order us locations_in locations-small writable fits small
+    go Rnglists small = new-lists order us ranges_in ranges-small writable fits small
+    go Loclists small = new-lists order us locations_in locations-small writable fits small
+    go _ small = omega arith
+
+-- One that is too long is so at its widest size.
+pub past-widest : (order : Endian) (units : AllPlaces) (us : List OrderedUnit) (name : SectionName) → AreWritable us → All FitsOrdered us → All (λ u. FitsLines u.lines) us → most_bytes < length (bytes_of order units us name) → most_bytes < widest_placed units name us
+past-widest order units us name writable fits lines large = go (ltb most_bytes (widest_placed units name us)) refl
+  where
+    go : (past : Bool) → ltb most_bytes (widest_placed units name us) ≡ past → most_bytes < widest_placed units name us
+    go true is = ltb-true _ _ is
+    go false is =
+        let small = ltb-false _ _ is in
+        absurd (omega (arith, small, large, within-widest order units us name writable fits lines (omega (arith, small))))

@@ -1,5 +1,5 @@
 -- Units that are laid out, as a writer keeps them.
-use Rattle.std.specs.Prelude.{◌≡◌, ℕ, ◌+◌, ◌<◌, ◌≤◌, List, length, map, get_or, Option, Some, None, IsSomeAnd, Result, Ok, Err}
+use Rattle.std.specs.Prelude.{◌≡◌, ℕ, ◌+◌, ◌<◌, ◌≤◌, List, [], length, map, get_or, Option, Some, None, IsSomeAnd, Result, Ok, Err}
 use Rattle.std.specs.List.{All, flat_map, list_all}
 use Rattle.dwc_base.specs.declared.section_name.SectionName.TheVariants.{Info}
 use Rattle.dwc_section.specs.declared.error.WriteError.{WriteError}
@@ -23,13 +23,13 @@ use Rattle.dwc_unit.specs.SpelledTables.{table_bytes}
 abbrev pub places_view : UnitLayout → UnitPlaces
 places_view l = record { start = l.start; offsets = l.offsets.items }
 
--- the same of all units, with the places of texts
-abbrev pub whole_view : List UnitLayout → List (Option ℕ) → AllPlaces
-whole_view layouts texts = record { units = map places_view layouts; texts = texts }
+-- the same of all units, with the places of texts, their table, and the texts that line tables name
+abbrev pub whole_view : List UnitLayout → List (Option ℕ) → List (List ℕ) → List (List ℕ) → AllPlaces
+whole_view layouts texts table names = record { units = map places_view layouts; texts = texts; table = table; names = names }
 
 -- the places of what a unit names, as it is written
 abbrev pub spelling_places : Spelling → Places
-spelling_places s = places_in (whole_view s.units.now s.texts.now) s.offsets.now s.line_offset
+spelling_places s = places_in (whole_view s.units.now s.texts.now [] []) s.version s.offsets.now s.line_offset
 
 -- Places are those of the entries that have lists of a kind.
 pub record AreListed (kind : ListKind) (added : List Addition) (fs : List FilePlace) (es : List GivenEntry) : Type 0 where

@@ -1,3 +1,6 @@
+pub mod SequenceRelocations
+pub mod PathTables
+pub mod PathViews
 pub mod SpelledSections
 pub mod ShortLists
 pub mod Layouts
@@ -10,3 +13,4 @@ pub mod SpelledOutput
 pub mod SectionViews
 pub mod ReadBack
 pub mod GivenFrames
+pub mod UnitNames

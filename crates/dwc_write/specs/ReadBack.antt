@@ -14,6 +14,7 @@ use Rattle.dwc_unit.specs.declared.lists.ListPlaces.{ListPlaces}
 use Rattle.dwc_unit.specs.Lists.{behind_attributes}
 use Rattle.dwc_unit.specs.GivenLines.{GivenLines}
 use Rattle.dwc_unit.specs.GivenUnits.{GivenEntry, OrderedUnit, Places, written_of}
+use Rattle.dwc_output.specs.Versions.{files_written}
 use Rattle.dwc_unit.specs.GivenSegments.{given_segments}
 
 -- ---- entries
@@ -41,13 +42,13 @@ given_contents next places lists (e ∷ es) = record { depth = e.depth; tag = e.
 
 -- ---- units
 
--- A unit names a line table, of version 4, with the directories, the files and the sequences of a line program.
+-- A unit names a line table, of its version, with the directories, the files and the sequences of a line program.
 pub record ReadsTable (s : Sections) (v : Unit) (g : GivenLines) : Type 0 where
   pub table : LineTable
   pub table_read : table_of_unit s v ≡ Ok (Some table)
-  pub version : table.header.version ≡ 4
+  pub version : table.header.version ≡ v.header.version
   pub directories : table.header.directories ≡ g.directories
-  pub files : table.files ≡ g.files
+  pub files : table.files ≡ files_written v.header.version g.files
   pub sequences : segments table ≡ given_segments g
 
 -- the same by the address size of the program; where that is none, the unit names no line table
@@ -55,13 +56,13 @@ abbrev pub ReadsLines : Sections → Unit → GivenLines → Option ℕ → Type
 ReadsLines s v g None = table_of_unit s v ≡ Ok None
 ReadsLines s v g (Some size) = ReadsTable s v g
 
--- A unit that is read is the one that was given, in version 4: its entries, and its line program.
+-- A unit that is read is the one that was given: its version, its entries, and its line program.
 pub record IsReadUnit (s : Sections) (u : OrderedUnit) (v : Unit) : Type 0 where
   pub places : Places
   pub lists : ListPlaces
-  pub version : v.header.version ≡ 4
+  pub version : v.header.version ≡ u.version
   pub address_size : v.header.address_size ≡ u.address_size
-  pub entries : map read_contents v.entries ≡ given_contents (behind_attributes u.address_size) places lists u.entries
+  pub entries : map read_contents v.entries ≡ given_contents (behind_attributes u.version u.address_size) places lists u.entries
   pub lines : ReadsLines s v u.lines u.lines.address_size
 
 -- Some sections hold, one to one and in order, the given units, and no others.

@@ -1,14 +1,16 @@
 -- The relocations of what is spelled: one at each address of a function, and one at each offset in a section. The laws are in
 -- `ReadRelocations`.
-use Rattle.std.specs.Prelude.{ℕ, ◌+◌, List, [], ◌∷◌, length}
+use Rattle.std.specs.Prelude.{ℕ, ◌+◌, List, [], ◌∷◌, length, if◌then◌else◌}
 use Rattle.dwc_base.specs.declared.records.Endian.{Endian}
 use Rattle.dwc_base.specs.declared.section_name.SectionName.TheVariants.{Abbrev, Info, Str}
 use Rattle.dwc_base.specs.Outputs.{OutputRelocation}
 use Rattle.dwc_base.specs.NumberBytes.{uleb_bytes}
 use Rattle.dwc_section.specs.Spelled.{at_places}
-use Rattle.dwc_section.specs.SpelledAddresses.{address_bytes}
-use Rattle.dwc_unit.specs.SpelledUnits.{Written, as_addr, as_strp, as_ref_addr, as_sec_offset, WrittenAttribute, attribute_bytes, Shaped, shaped, entry_bytes, header_length}
-use Rattle.dwc_unit.specs.SpelledLines.{WrittenSequence, program_bytes, program_place, sequence_instructions}
+use Rattle.dwc_unit.specs.SpelledUnits.{Written, as_addr, as_strp, as_ref_addr, as_sec_offset, WrittenAttribute, attribute_bytes, Shaped, shaped, entry_bytes, header_length, table_place}
+use Rattle.dwc_unit.specs.SpelledLines.{program_place}
+use Rattle.dwc_output.specs.Versions.{is_old}
+use Rattle.dwc_write.specs.PathTables.{path_table_relocations}
+pub use Rattle.dwc_write.specs.SequenceRelocations.{sequence_bytes, sequence_relocations, sequences_relocations}
 use Rattle.dwc_write.specs.SpelledSections.{WrittenUnit, placed_unit_bytes, WrittenTable, one_table_bytes}
 use Rattle.dwc_section.specs.Writers.{address_relocations, offset_relocation}
 
@@ -32,25 +34,17 @@ entries_relocations order size place xs = at_places (entry_bytes order size) (en
 
 -- that of the abbreviation table, in the header, and those of the entries
 abbrev pub unit_relocations : Endian → ℕ → ℕ → WrittenUnit → List OutputRelocation
-unit_relocations order size place u = offset_relocation (place + 6) 4 Abbrev u.table_offset ∷ entries_relocations order size (place + header_length) (shaped u.entries)
+unit_relocations order size place u = offset_relocation (place + table_place u.version) 4 Abbrev u.table_offset ∷ entries_relocations order size (place + header_length u.version) (shaped u.entries)
 
 abbrev pub info_relocations : Endian → ℕ → ℕ → List WrittenUnit → List OutputRelocation
 info_relocations order size place us = at_places (placed_unit_bytes order size) (unit_relocations order size) place us
 
 -- ---- line tables
 
-abbrev pub sequence_bytes : Endian → ℕ → WrittenSequence → List ℕ
-sequence_bytes order size q = program_bytes order size (sequence_instructions q)
-
--- that of its start: behind a zero, the length and the opcode
-abbrev pub sequence_relocations : Endian → ℕ → ℕ → WrittenSequence → List OutputRelocation
-sequence_relocations order size place q = address_relocations (((place + 1) + length (uleb_bytes (length (2 ∷ address_bytes order size q.start_address)))) + 1) size q.start_address
-
-abbrev pub sequences_relocations : Endian → ℕ → ℕ → List WrittenSequence → List OutputRelocation
-sequences_relocations order size place qs = at_places (sequence_bytes order size) (sequence_relocations order size) place qs
-
 abbrev pub one_table_relocations : Endian → ℕ → ℕ → WrittenTable → List OutputRelocation
-one_table_relocations order size place t = sequences_relocations order size (place + program_place t.directories t.files) t.sequences
+one_table_relocations order size place t =
+    if is_old t.version then sequences_relocations order size (place + program_place t.directories t.files) t.sequences
+    else path_table_relocations order size place t.texts t.own t.directories t.files t.sequences
 
 abbrev pub lines_relocations : Endian → ℕ → ℕ → List WrittenTable → List OutputRelocation
 lines_relocations order size place ts = at_places (one_table_bytes order size) (one_table_relocations order size) place ts

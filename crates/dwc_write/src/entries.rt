@@ -1,11 +1,13 @@
-//! Units with their entries, as they are written. (DWARF 4, section 7.5.)
+//! Units with their entries, as they are written. (DWARF 4 and 5, section 7.5.)
 ghost use Rattle.std.specs.Prelude.{◌≡◌, ◌++◌, ◌∷◌, [], ◌+◌, ◌<◌, ◌≤◌, ◌⊎◌, OnOk, map, length, get_or, replicate};
 ghost use Rattle.std.specs.List.{All, flat_map};
-ghost use Rattle.dwc_base.specs.NumberBytes.{number_bytes, sleb_bytes, uleb_bytes};
+ghost use Rattle.dwc_base.specs.NumberBytes.{sleb_bytes, uleb_bytes};
 ghost use Rattle.dwc_section.specs.Spelled.{block_bytes};
 ghost use Rattle.dwc_unit.specs.SpelledUnits.{attribute_bytes, entry_bytes, shaped, written_bytes};
 ghost use Rattle.dwc_write.specs.SpelledRelocations.{entries_relocations, value_relocations, values_relocations};
-ghost use Rattle.dwc_unit.specs.GivenUnits.{FitsAttribute, FitsEntry as FitsGivenEntry, FitsOperand, constant_of, first_uses, numbered, shapes_of, behind_entries, written_attributes, written_entries, written_of};
+ghost use Rattle.dwc_unit.specs.SpelledUnits.{table_place};
+ghost use Rattle.dwc_write.specs.SpelledSections.{header_bytes};
+ghost use Rattle.dwc_unit.specs.GivenUnits.{IsWrittenVersion, FitsAttribute, FitsEntry as FitsGivenEntry, FitsOperand, constant_of, first_uses, numbered, shapes_of, behind_entries, written_attributes, written_entries, written_of};
 ghost use Rattle.dwc_unit.specs.FileOrders.{looked_up};
 ghost use Rattle.dwc_write.specs.LayoutViews.{places_view, spelling_places};
 ghost use Rattle.dwc_write.specs.Layouts.{AreShort, codes_of, offset_in_section, offset_of_text};
@@ -17,8 +19,9 @@ ghost use Rattle.dwc_section.specs.Writers.{Writes, most_bytes, offset_relocatio
 
 use crate::layout::UnitLayout;
 use crate::list_places::behind_value;
+use crate::list_sections::{section_of_locations, section_of_ranges};
 use dwc_base::constants::{
-    DW_FORM_data1, DW_FORM_data2, DW_FORM_data4, DW_FORM_data8, DW_FORM_sdata,
+    DW_FORM_data1, DW_FORM_data2, DW_FORM_data4, DW_FORM_data8, DW_FORM_sdata, DW_UT_compile,
 };
 use dwc_base::{Endian, SectionName};
 use dwc_section::append::{bytes_2, put_sleb};
@@ -29,11 +32,12 @@ use dwc_unit::file_order::{FilePlace, depth_of_first};
 use dwc_unit::lists::ListPlaces;
 use dwc_unit::{DebugInfoRef, StringId, UnitEntryId, UnitId};
 
-// How the values of a unit are written: the order of bytes, the size of an address, and where what they name stands: the unit's
+// How the values of a unit are written: the order of bytes, the version, the size of an address, and where what they name stands: the unit's
 // line table, its lists with their ends, its entries by their numbers, the entries of all units, and texts by their numbers.
 #[derive(Clone, Copy)]
 pub struct Spelling<'a> {
     pub order: Endian,
+    pub version: u16,
     pub size: u8,
     pub line_offset: usize,
     pub lists: ListPlaces,
@@ -93,10 +97,11 @@ pub fn write_unit(
     layout: &UnitLayout,
 ) -> Result<(), WriteError>
     requires order { spelling.now.order ≡ info.old.order }
+    requires version { IsWrittenVersion spelling.now.version }
     requires size { (spelling.now.size ≡ 4) ⊎ (spelling.now.size ≡ 8) }
     requires short { AreShort (spelling_places spelling.now) }
     requires fits { All (FitsGivenEntry spelling.now.size) (map (looked_up additions.now) layout.now.order.items) }
-    requires lists { AreWithin (behind_entries spelling.now.size spelling.now.lists (map (looked_up additions.now) layout.now.order.items)) }
+    requires lists { AreWithin (behind_entries spelling.now.version spelling.now.size spelling.now.lists (map (looked_up additions.now) layout.now.order.items)) }
     requires known { All (λ f. f.index < length additions.now) layout.now.order.items }
     requires codes { layout.now.codes.items ≡ codes_of (map (looked_up additions.now) layout.now.order.items) }
     requires table { layout.now.table.items ≡ table_bytes (numbered 1 (first_uses [] (shapes_of (map (looked_up additions.now) layout.now.order.items)))) }
@@ -116,22 +121,34 @@ pub fn write_unit(
     tables.put_bytes(&layout.table)
 }
 
-// A header: room for the length, the version, the offset of the abbreviation table, and the size of an address.
+// A header: room for the length, the version, and by it the offset of the abbreviation table, the size of an address and the unit's type.
 fn write_header(
     info: &mut WriterRelocate,
     spelling: &Spelling<'_>,
     table_offset: usize,
 ) -> Result<(), WriteError>
+    requires version { IsWrittenVersion spelling.now.version }
     requires order { spelling.now.order ≡ info.old.order }
     requires table { table_offset ≤ most_bytes }
-    ensures { Writes info.old info.new result
-        ((0 ∷ 0 ∷ 0 ∷ 0 ∷ []) ++ (number_bytes info.old.order 2 4 ++ (number_bytes info.old.order 4 table_offset ++ (spelling.now.size ∷ []))))
-        (offset_relocation (length info.old.body + 6) 4 Abbrev table_offset ∷ []) }
+    ensures { Writes info.old info.new result (header_bytes spelling.now.version info.old.order spelling.now.size table_offset) (offset_relocation (length info.old.body + table_place spelling.now.version) 4 Abbrev table_offset ∷ []) }
 {
-    let version = bytes_2(spelling.order, 4);
-    info.put_bytes(&[0, 0, 0, 0, version[0], version[1]])?;
-    info.put_offset(table_offset, SectionName::Abbrev)?;
-    info.put_bytes(&[spelling.size])
+    let version = bytes_2(spelling.order, spelling.version);
+    if spelling.version < 5 {
+        info.put_bytes(&[0, 0, 0, 0, version[0], version[1]])?;
+        info.put_offset(table_offset, SectionName::Abbrev)?;
+        return info.put_bytes(&[spelling.size]);
+    }
+    info.put_bytes(&[
+        0,
+        0,
+        0,
+        0,
+        version[0],
+        version[1],
+        DW_UT_compile,
+        spelling.size,
+    ])?;
+    info.put_offset(table_offset, SectionName::Abbrev)
 }
 
 // Entries in file order, one behind another, with the codes of their shapes.
@@ -148,12 +165,12 @@ fn write_entries(
     requires size { (spelling.now.size ≡ 4) ⊎ (spelling.now.size ≡ 8) }
     requires short { AreShort (spelling_places spelling.now) }
     requires fits { All (FitsGivenEntry spelling.now.size) (map (looked_up additions.now) order.now) }
-    requires lists { AreWithin (behind_entries spelling.now.size spelling.now.lists (map (looked_up additions.now) order.now)) }
+    requires lists { AreWithin (behind_entries spelling.now.version spelling.now.size spelling.now.lists (map (looked_up additions.now) order.now)) }
     requires known { All (λ f. f.index < length additions.now) order.now }
     requires codes { codes.now ≡ codes_of (map (looked_up additions.now) order.now) }
     ensures { Writes info.old info.new result
-        (flat_map (entry_bytes info.old.order spelling.now.size) (shaped (written_entries (behind_all spelling.now.size) (spelling_places spelling.now) spelling.now.lists (first_uses [] (shapes_of (map (looked_up additions.now) order.now))) (map (looked_up additions.now) order.now))))
-        (entries_relocations info.old.order spelling.now.size (length info.old.body) (shaped (written_entries (behind_all spelling.now.size) (spelling_places spelling.now) spelling.now.lists (first_uses [] (shapes_of (map (looked_up additions.now) order.now))) (map (looked_up additions.now) order.now)))) }
+        (flat_map (entry_bytes info.old.order spelling.now.size) (shaped (written_entries (behind_all spelling.now.version spelling.now.size) (spelling_places spelling.now) spelling.now.lists (first_uses [] (shapes_of (map (looked_up additions.now) order.now))) (map (looked_up additions.now) order.now))))
+        (entries_relocations info.old.order spelling.now.size (length info.old.body) (shaped (written_entries (behind_all spelling.now.version spelling.now.size) (spelling_places spelling.now) spelling.now.lists (first_uses [] (shapes_of (map (looked_up additions.now) order.now))) (map (looked_up additions.now) order.now)))) }
 {
     let mut lists = spelling.lists;
     for i in 0..order.len() {
@@ -181,11 +198,11 @@ pub fn write_entry(
     requires size { (spelling.now.size ≡ 4) ⊎ (spelling.now.size ≡ 8) }
     requires short { AreShort (spelling_places spelling.now) }
     requires fits { All (FitsAttribute spelling.now.size) attributes.now }
-    requires lists { AreWithin (behind_all spelling.now.size lists.old attributes.now) }
+    requires lists { AreWithin (behind_all spelling.now.version spelling.now.size lists.old attributes.now) }
     ensures bytes { Writes info.old info.new result
-        (uleb_bytes code ++ (flat_map (attribute_bytes info.old.order spelling.now.size) (written_attributes (behind_all spelling.now.size) (spelling_places spelling.now) lists.old attributes.now) ++ replicate ends 0))
-        (values_relocations info.old.order spelling.now.size (length info.old.body + length (uleb_bytes code)) (written_attributes (behind_all spelling.now.size) (spelling_places spelling.now) lists.old attributes.now)) }
-    ensures lists { OnOk result (lists.new ≡ behind_all spelling.now.size lists.old attributes.now) }
+        (uleb_bytes code ++ (flat_map (attribute_bytes info.old.order spelling.now.size) (written_attributes (behind_all spelling.now.version spelling.now.size) (spelling_places spelling.now) lists.old attributes.now) ++ replicate ends 0))
+        (values_relocations info.old.order spelling.now.size (length info.old.body + length (uleb_bytes code)) (written_attributes (behind_all spelling.now.version spelling.now.size) (spelling_places spelling.now) lists.old attributes.now)) }
+    ensures lists { OnOk result (lists.new ≡ behind_all spelling.now.version spelling.now.size lists.old attributes.now) }
 {
     write_uleb(info, scratch, code)?;
     write_values(info, scratch, spelling, lists, attributes)?;
@@ -194,7 +211,7 @@ pub fn write_entry(
 
 // An unsigned LEB128 number, which mostly has one byte.
 #[inline(always)]
-fn write_uleb(
+pub(crate) fn write_uleb(
     info: &mut WriterRelocate,
     scratch: &mut Vec<u8>,
     value: u64,
@@ -243,16 +260,16 @@ fn write_values(
     requires size { (spelling.now.size ≡ 4) ⊎ (spelling.now.size ≡ 8) }
     requires short { AreShort (spelling_places spelling.now) }
     requires fits { All (FitsAttribute spelling.now.size) attributes.now }
-    requires lists { AreWithin (behind_all spelling.now.size lists.old attributes.now) }
+    requires lists { AreWithin (behind_all spelling.now.version spelling.now.size lists.old attributes.now) }
     ensures bytes { Writes info.old info.new result
-        (flat_map (attribute_bytes info.old.order spelling.now.size) (written_attributes (behind_all spelling.now.size) (spelling_places spelling.now) lists.old attributes.now))
-        (values_relocations info.old.order spelling.now.size (length info.old.body) (written_attributes (behind_all spelling.now.size) (spelling_places spelling.now) lists.old attributes.now)) }
-    ensures lists { OnOk result (lists.new ≡ behind_all spelling.now.size lists.old attributes.now) }
+        (flat_map (attribute_bytes info.old.order spelling.now.size) (written_attributes (behind_all spelling.now.version spelling.now.size) (spelling_places spelling.now) lists.old attributes.now))
+        (values_relocations info.old.order spelling.now.size (length info.old.body) (written_attributes (behind_all spelling.now.version spelling.now.size) (spelling_places spelling.now) lists.old attributes.now)) }
+    ensures lists { OnOk result (lists.new ≡ behind_all spelling.now.version spelling.now.size lists.old attributes.now) }
 {
     for i in 0..attributes.len() {
         let attribute = &attributes[i];
         write_value(info, scratch, spelling, *lists, attribute)?;
-        *lists = behind_value(*lists, spelling.size, attribute);
+        *lists = behind_value(spelling.version, *lists, spelling.size, attribute);
     }
     Ok(())
 }
@@ -280,8 +297,12 @@ fn write_value(
         Held::Exprloc(bytes) => write_block(info, scratch, bytes),
         Held::StringRef(id) => { info.put_offset(spelling.text_offset_of(id), SectionName::Str) }
         Held::LineProgramRef => info.put_offset(spelling.line_offset, SectionName::Line),
-        Held::RangeListRef(_) => info.put_offset(lists.ranges, SectionName::Ranges),
-        Held::LocationListRef(_) => info.put_offset(lists.locations, SectionName::Loc),
+        Held::RangeListRef(_) => {
+            info.put_offset(lists.ranges, section_of_ranges(spelling.version))
+        },
+        Held::LocationListRef(_) => {
+            info.put_offset(lists.locations, section_of_locations(spelling.version))
+        },
         Held::UnitRef(id) => info.put_number(4, spelling.offset_of(id) as u64),
         Held::DebugInfoRef(DebugInfoRef::Entry(unit, id)) => {
             info.put_offset(spelling.section_offset_of(unit, id), SectionName::Info)

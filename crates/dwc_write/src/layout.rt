@@ -33,8 +33,12 @@ use dwc_unit::file_order::{FilePlace, depth_of_first, file_order};
 use dwc_unit::small_places::SmallPlace;
 use std::alloc::{AllocError, Global};
 
-// The bytes of a unit's header.
-const HEADER_LENGTH: usize = 11;
+// The bytes of the header of a unit of a version.
+fn header_length(version: u16) -> usize
+    ensures { result ≡ header_length version }
+{
+    if version < 5 { 11 } else { 12 }
+}
 
 // Room is made at first for so many shapes.
 const USUAL_SHAPES: usize = 14;
@@ -107,6 +111,7 @@ fn lay_out_unit(alloc: Global, unit: &Unit, start: usize) -> Result<UnitLayout, 
     };
     let length = place_entries(
         alloc,
+        unit.version,
         unit.address_size,
         &unit.additions,
         &order,
@@ -131,6 +136,7 @@ fn lay_out_unit(alloc: Global, unit: &Unit, start: usize) -> Result<UnitLayout, 
 #[inline(never)]
 fn place_entries(
     alloc: Global,
+    version: u16,
     size: u8,
     additions: &Additions,
     order: &[FilePlace],
@@ -145,14 +151,14 @@ fn place_entries(
     requires notes { IsNoting additions.now coded.old.notes [] }
     ensures shapes { OnOk result (map shape_view coded.new.shapes.shapes.items ≡ first_uses [] (shapes_of (map (looked_up additions.now) order.now))) }
     ensures codes { OnOk result (coded.new.codes.items ≡ codes_of (map (looked_up additions.now) order.now)) }
-    ensures offsets { OnOk result ((o : Endian) → coded.new.offsets.items ≡ at_places (entry_bytes o size) (λ place x. place ∷ []) header_length (shaped (written_entries nowhere no_places no_lists (first_uses [] (shapes_of (map (looked_up additions.now) order.now))) (map (looked_up additions.now) order.now)))) }
+    ensures offsets { OnOk result ((o : Endian) → coded.new.offsets.items ≡ at_places (entry_bytes o size) (λ place x. place ∷ []) (header_length version) (shaped (written_entries nowhere no_places no_lists (first_uses [] (shapes_of (map (looked_up additions.now) order.now))) (map (looked_up additions.now) order.now)))) }
     ensures notes { OnOk result (IsNoting additions.now coded.new.notes (map (looked_up additions.now) order.now)) }
-    ensures end { (o : Endian) → AdvancesOrMemory result header_length (length (flat_map (entry_bytes o size) (shaped (written_entries nowhere no_places no_lists (first_uses [] (shapes_of (map (looked_up additions.now) order.now))) (map (looked_up additions.now) order.now))))) }
+    ensures end { (o : Endian) → AdvancesOrMemory result (header_length version) (length (flat_map (entry_bytes o size) (shaped (written_entries nowhere no_places no_lists (first_uses [] (shapes_of (map (looked_up additions.now) order.now))) (map (looked_up additions.now) order.now))))) }
 {
     let mut words = Vec::new(alloc);
     // the places of the shapes that were last found for entries alike
     let mut guesses = [0; GUESSES];
-    let mut place = HEADER_LENGTH;
+    let mut place = header_length(version);
     for i in 0..order.len() {
         let depth = order[i].depth as usize;
         let index = order[i].index as usize;

@@ -5,9 +5,12 @@
 mod abbreviations;
 mod entries;
 mod layout;
+mod line_names;
 mod list_places;
+mod list_sections;
 mod lists;
 mod notes;
+mod path_tables;
 mod room;
 mod sections;
 mod shapes;
@@ -15,6 +18,7 @@ mod short_lists;
 mod sizes;
 mod tables;
 mod text_layout;
+mod unit_names;
 
 pub use dwc_frames::FrameTable;
 pub use dwc_section::{WriteError, Writer, WriterRelocate, put_uleb};

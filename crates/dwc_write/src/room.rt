@@ -1,6 +1,5 @@
 //! The room that sections take, counted while entries are laid out, so that it is made once for a unit. No contract hangs on it.
 
-use crate::lists::held_length;
 use dwc_base::Address;
 use dwc_unit::Expression;
 
@@ -16,6 +15,15 @@ pub struct Counts {
     pub locations: usize,
     pub held: usize,
 }
+
+// Lengths of expressions have two bytes up to version 4, and seldom more from version 5 on.
+const LENGTH_BYTES: usize = 2;
+
+// Lengths of intervals seldom have more bytes.
+const USUAL_EXTENT: usize = 3;
+
+// In front of the lists of a unit.
+const HEADER_BYTES: usize = 12;
 
 // Nothing is counted.
 pub const NO_COUNTS: Counts = Counts {
@@ -44,8 +52,8 @@ pub fn count_locations(counts: &mut Counts, locations: &[(Address, u64, Expressi
     add_to(&mut counts.lists, 1);
     add_to(&mut counts.locations, locations.len());
     for location in locations {
-        let held = held_length(Some(location.2.as_slice()));
-        add_to(&mut counts.held, held);
+        add_to(&mut counts.held, LENGTH_BYTES);
+        add_to(&mut counts.held, location.2.as_slice().len());
     }
 }
 
@@ -64,26 +72,44 @@ impl Counts {
         add_to(&mut self.held, more.held);
     }
 
-    // The bytes of range lists, whose addresses have so many bytes.
-    pub fn range_bytes(&self, size: u8) -> usize {
-        self.ranges.saturating_mul(2 * usize::from(size))
+    // About the bytes of range lists, whose addresses have so many bytes.
+    pub fn range_bytes(&self, version: u16, size: u8) -> usize {
+        self.ranges
+            .saturating_mul(interval_bytes(version, size))
+            .saturating_add(HEADER_BYTES)
     }
 
-    // Their relocations, and two for each end of a list.
-    pub fn range_relocations(&self) -> usize {
-        self.ranges.saturating_mul(2)
+    // Their relocations, and as many for each end of a list.
+    pub fn range_relocations(&self, version: u16) -> usize {
+        self.ranges.saturating_mul(interval_relocations(version))
     }
 
-    // The bytes of location lists.
-    pub fn location_bytes(&self, size: u8) -> usize {
-        let pairs = self.lists.saturating_add(self.locations);
-        pairs
-            .saturating_mul(2 * usize::from(size))
+    // About the bytes of location lists.
+    pub fn location_bytes(&self, version: u16, size: u8) -> usize {
+        let intervals = self.lists.saturating_add(self.locations);
+        intervals
+            .saturating_mul(interval_bytes(version, size))
             .saturating_add(self.held)
+            .saturating_add(HEADER_BYTES)
     }
 
     // Their relocations.
-    pub fn location_relocations(&self) -> usize {
-        self.locations.saturating_mul(2)
+    pub fn location_relocations(&self, version: u16) -> usize {
+        self.locations.saturating_mul(interval_relocations(version))
     }
+}
+
+// About the bytes of an interval: both ends, or a kind, the begin and a length.
+fn interval_bytes(version: u16, size: u8) -> usize {
+    let address = usize::from(size);
+    if version < 5 {
+        2 * address
+    } else {
+        1 + address + USUAL_EXTENT
+    }
+}
+
+// Its relocations.
+fn interval_relocations(version: u16) -> usize {
+    if version < 5 { 2 } else { 1 }
 }

@@ -1,10 +1,10 @@
-//! Whether the expressions of location lists are short enough for lengths of two bytes, found before a byte is written. (DWARF 4,
-//! section 2.6.2.)
+//! Whether the expressions of location lists are short enough for lengths of two bytes, found before a byte is written. They have such lengths
+//! up to version 4. (DWARF 4, section 2.6.2.)
 ghost use Rattle.std.specs.Prelude.{◌≡◌, IfOk};
 ghost use Rattle.std.specs.List.{AllZip, list_all};
 ghost use Rattle.dwc_unit.specs.GivenUnits.{ordered};
 ghost use Rattle.dwc_write.specs.LayoutViews.{IsLaidOut};
-ghost use Rattle.dwc_write.specs.ShortLists.{are_short_values, is_short_location, is_short_unit, is_short_value};
+ghost use Rattle.dwc_write.specs.ShortLists.{are_short_units, are_short_values, is_short_location, is_short_unit, is_short_value};
 
 use crate::layout::UnitLayout;
 use dwc_base::Address;
@@ -13,9 +13,25 @@ use dwc_unit::additions::Additions;
 use dwc_unit::attributes::{Held, KeptAttribute};
 use dwc_unit::{Expression, Unit};
 
-/// Whether all expressions of the location lists of units are, as it is noted where they could be laid out.
+/// Whether all expressions of the location lists of units are; from version 5 on each is.
+pub fn are_short_lists(
+    version: u16,
+    units: &[Unit],
+    laid: &Result<Vec<UnitLayout>, WriteError>,
+) -> bool
+    requires { IfOk laid.now (λ ls. AllZip IsLaidOut units.now ls.items) }
+    ensures { result ≡ are_short_units version units.now }
+{
+    if version < 5 {
+        are_noted_short(units, laid)
+    } else {
+        true
+    }
+}
+
+// Whether they are, as it is noted where units could be laid out.
 #[tactic(auto, using(crate::proofs::NotedLaws::short_noted))]
-pub fn are_short_lists(units: &[Unit], laid: &Result<Vec<UnitLayout>, WriteError>) -> bool
+fn are_noted_short(units: &[Unit], laid: &Result<Vec<UnitLayout>, WriteError>) -> bool
     requires { IfOk laid.now (λ ls. AllZip IsLaidOut units.now ls.items) }
     ensures { result ≡ list_all (λ u. is_short_unit (ordered u)) units.now }
 {

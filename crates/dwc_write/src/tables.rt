@@ -1,18 +1,21 @@
 //! Line tables, as they are written. (DWARF 4, section 6.2.4.)
-ghost use Rattle.std.specs.Prelude.{◌≡◌, ◌++◌, ◌∷◌, [], ◌+◌, ◌⊎◌, OnOk, map, length};
+ghost use Rattle.std.specs.Prelude.{◌≡◌, ◌++◌, ◌∷◌, [], ◌+◌, ◌⊎◌, OnOk, Some, map, length};
 ghost use Rattle.std.specs.List.{All, flat_map};
 ghost use Rattle.dwc_base.specs.NumberBytes.{number_bytes};
 ghost use Rattle.dwc_section.specs.Spelled.{sized_bytes, text_bytes};
 ghost use Rattle.dwc_section.specs.SpelledAddresses.{address_bytes};
-ghost use Rattle.dwc_unit.specs.SpelledLines.{file_bytes, line_fields_bytes};
+ghost use Rattle.dwc_unit.specs.SpelledLines.{file_bytes, line_fields_bytes, line_table_bytes, program_place, sequences_instructions};
 ghost use Rattle.dwc_write.specs.SpelledSections.{lines_bytes};
 ghost use Rattle.dwc_write.specs.SpelledRelocations.{lines_relocations, sequence_bytes, sequence_relocations, sequences_relocations};
 ghost use Rattle.dwc_unit.specs.GivenLines.{FitsGivenSequence, FitsLines};
-ghost use Rattle.dwc_unit.specs.GivenUnits.{IsOfSize};
+ghost use Rattle.dwc_unit.specs.GivenUnits.{IsOfSize, IsWrittenVersion};
+ghost use Rattle.dwc_write.specs.PathViews.{IsPathLayout};
 ghost use Rattle.dwc_write.specs.Layouts.{written_lines};
 ghost use Rattle.dwc_unit.specs.LineViews.{sequence_view};
 ghost use Rattle.dwc_section.specs.Writers.{FitsField, Writes, address_relocations};
 
+use crate::line_names::LineNames;
+use crate::path_tables::write_path_table;
 use dwc_base::constants::DW_LNE_set_address;
 use dwc_base::{Address, Endian};
 use dwc_section::append::{bytes_2, put_text};
@@ -25,8 +28,37 @@ use std::alloc::AllocError;
 // The most bytes of the instruction that sets the address of a sequence.
 const WIDEST_START: usize = 11;
 
-// The line table of a program, where there is one.
+// The line table of a program, where there is one, by the version of its unit, with the compilation directory of that and the names that stand
+// elsewhere.
 pub fn write_lines(
+    line: &mut WriterRelocate,
+    scratch: &mut Vec<u8>,
+    order: Endian,
+    version: u16,
+    size: u8,
+    own: &[u8],
+    lines: &LineProgram,
+    names: &LineNames,
+) -> Result<(), WriteError>
+    requires version { IsWrittenVersion version }
+    requires order { order ≡ line.old.order }
+    requires size { (size ≡ 4) ⊎ (size ≡ 8) }
+    requires same { IsOfSize size lines.now.address_size }
+    requires names { IsPathLayout names.now }
+    ensures bytes { Writes line.old line.new result (lines_bytes line.old.order size (written_lines version names.now.texts own.now lines.now)) (lines_relocations line.old.order size (length line.old.body) (written_lines version names.now.texts own.now lines.now)) }
+    ensures fits { FitsLines lines.now }
+{
+    let Some(_) = lines.address_size else {
+        return Ok(());
+    };
+    if version < 5 {
+        return write_old_table(line, scratch, order, size, lines);
+    }
+    write_path_table(line, scratch, size, own, lines, names)
+}
+
+// A table of version 4, whose names stand in it.
+fn write_old_table(
     line: &mut WriterRelocate,
     scratch: &mut Vec<u8>,
     order: Endian,
@@ -35,13 +67,9 @@ pub fn write_lines(
 ) -> Result<(), WriteError>
     requires order { order ≡ line.old.order }
     requires size { (size ≡ 4) ⊎ (size ≡ 8) }
-    requires same { IsOfSize size lines.now.address_size }
-    ensures bytes { Writes line.old line.new result (lines_bytes line.old.order size (written_lines lines.now)) (lines_relocations line.old.order size (length line.old.body) (written_lines lines.now)) }
-    ensures fits { FitsLines lines.now }
+    requires same { lines.now.address_size ≡ Some size }
+    ensures { Writes line.old line.new result (line_table_bytes line.old.order size lines.now.directories lines.now.files (sequences_instructions lines.now.sequences)) (sequences_relocations line.old.order size (length line.old.body + program_place lines.now.directories lines.now.files) lines.now.sequences) }
 {
-    let Some(_) = lines.address_size else {
-        return Ok(());
-    };
     scratch.clear();
     put_fields(scratch, &lines.directories, &lines.files)?;
     let place = line.place();
@@ -62,7 +90,7 @@ fn write_header(line: &mut WriterRelocate, order: Endian, fields: &[u8]) -> Resu
 }
 
 // Sequences, one behind another.
-fn write_sequences(
+pub fn write_sequences(
     line: &mut WriterRelocate,
     size: u8,
     sequences: &[Sequence],

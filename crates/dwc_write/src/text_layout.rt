@@ -119,7 +119,7 @@ fn put_texts(section: &mut WriterRelocate, texts: &[Text], used: &[usize]) -> Re
 }
 
 // A text and the zero that ends it.
-fn put_text(section: &mut WriterRelocate, text: &[u8]) -> Result<(), WriteError>
+pub(crate) fn put_text(section: &mut WriterRelocate, text: &[u8]) -> Result<(), WriteError>
     ensures { Writes section.old section.new result (text.now ++ 0 ∷ []) [] }
 {
     section.put_bytes(text)?;

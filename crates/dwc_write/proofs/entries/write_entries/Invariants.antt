@@ -14,7 +14,7 @@ invariant-loop-i l =
     let es = map (looked_up l.additions) l.order in
     let uses = first_uses [] (shapes_of es) in
     record {
-      entries : whole (entry_bytes l.initial.info.order l.spelling.size) (entry_relocations l.initial.info.order l.spelling.size) (shaped (written_entries (behind_attributes l.spelling.size) (spelling_places l.spelling) l.lists uses (map (looked_up l.additions) (drop l.i l.order)))) l.info
-          ≡ whole (entry_bytes l.initial.info.order l.spelling.size) (entry_relocations l.initial.info.order l.spelling.size) (shaped (written_entries (behind_attributes l.spelling.size) (spelling_places l.spelling) l.spelling.lists uses es)) l.initial.info;
-      lists : behind_entries l.spelling.size l.lists (map (looked_up l.additions) (drop l.i l.order)) ≡ behind_entries l.spelling.size l.spelling.lists es;
+      entries : whole (entry_bytes l.initial.info.order l.spelling.size) (entry_relocations l.initial.info.order l.spelling.size) (shaped (written_entries (behind_attributes l.spelling.version l.spelling.size) (spelling_places l.spelling) l.lists uses (map (looked_up l.additions) (drop l.i l.order)))) l.info
+          ≡ whole (entry_bytes l.initial.info.order l.spelling.size) (entry_relocations l.initial.info.order l.spelling.size) (shaped (written_entries (behind_attributes l.spelling.version l.spelling.size) (spelling_places l.spelling) l.spelling.lists uses es)) l.initial.info;
+      lists : behind_entries l.spelling.version l.spelling.size l.lists (map (looked_up l.additions) (drop l.i l.order)) ≡ behind_entries l.spelling.version l.spelling.size l.spelling.lists es;
     }

@@ -3,8 +3,7 @@ use Rattle.std.proofs.lemmas.Result.{err_from_is_err_and}
 use Rattle.dwc_unit.specs.FileOrders.{looked_up}
 use Rattle.dwc_write.specs.LayoutViews.{spelling_places}
 use Rattle.dwc_write.specs.SpelledOutput.{unit_of}
-use Rattle.dwc_write.proofs.UnitBytes.{front, header-length, unit-length, unit-clear, unit-appended}
-use Rattle.dwc_write.proofs.OutputLaws.{info-refused, info-refused-later, unit-result}
+use Rattle.dwc_write.proofs.UnitBytes.{front, header-length, info-refused, info-refused-later, unit-length, unit-clear, unit-appended, unit-result}
 use Rattle.dwc_write.proofs.entries.write_unit.Goals as goal
 
 pub finish_length-requires-clause-clear : goal.finish_length-requires-clause-clear
@@ -25,7 +24,7 @@ returns-in_err-write_entries c =
     let u = unit_of c.args.spelling.now.size c.args.spelling.now.lists (length c.args.tables.now.body) (spelling_places c.args.spelling.now) (map (looked_up c.args.additions.now) c.args.layout.now.order.items) in
     let p = err_from_is_err_and c.from_residual-in_err-write_entries.result c.from_residual-in_err-write_entries.ensures.1 in
     let headed = rw (c.place.ensures.place) at c.in_ok-write_header.ensures in
-    info-refused-later _ _ _ _ c.args.info.now _ c.write_header.new.info (front c.args.info.now.order c.args.spelling.now.size u.table_offset) _ c.args.spelling.now.size c.args.spelling.now.lists (spelling_places c.args.spelling.now) (map (looked_up c.args.additions.now) c.args.layout.now.order.items) _ p headed (rw (c.deref.ensures.value) at c.in_err-write_entries.ensures)
+    info-refused-later _ _ _ _ c.args.info.now _ c.write_header.new.info (front c.args.info.now.order c.args.spelling.now.size u) _ c.args.spelling.now.size c.args.spelling.now.lists (spelling_places c.args.spelling.now) (map (looked_up c.args.additions.now) c.args.layout.now.order.items) _ p headed (rw (c.deref.ensures.value) at c.in_err-write_entries.ensures)
     (unit-length c.args.spelling.now.size u c.args.info.now c.write_header.new.info _ headed)
 
 pub returns : goal.returns

@@ -24,7 +24,7 @@ offsets_by_place-requires-clause-each c =
     let uses = first_uses [] (shapes_of es) in
     let is = c.in_ok-length.ensures.offsets Little in
     rw (c.deref-3.ensures.value, c.deref-2.ensures.value)
-    (ap length is ∙ offsets-many (entry_bytes Little size) header_length (shaped (written_entries nowhere no_places no_lists uses es)) ∙ shaped-many uses es ∙ length-map c.deref.result.now (looked_up c.unit.inside.additions) ∙ ap length c.deref.ensures.value)
+    (ap length is ∙ offsets-many (entry_bytes Little size) (header_length c.unit.inside.version) (shaped (written_entries nowhere no_places no_lists uses es)) ∙ shaped-many uses es ∙ length-map c.deref.result.now (looked_up c.unit.inside.additions) ∙ ap length c.deref.ensures.value)
 
 pub returns-clause-places : goal.returns-clause-places
 returns-clause-places c = λ order.
@@ -32,10 +32,10 @@ returns-clause-places c = λ order.
     let size = v.address_size in
     let added = v.additions in
     let es = in_file_order added in
-    let offsets = at_places (entry_bytes order size) (λ place x. place ∷ []) header_length (shaped (written_entries nowhere no_places no_lists (first_uses [] (shapes_of es)) es)) in
+    let offsets = at_places (entry_bytes order size) (λ place x. place ∷ []) (header_length c.unit.inside.version) (shaped (written_entries nowhere no_places no_lists (first_uses [] (shapes_of es)) es)) in
     let in_order : map (looked_up added) c.in_ok-order.order.items ≡ es = c.in_ok-order.ensures.order in
     let is : c.place_entries.new.coded.offsets.items ≡ offsets =
-    (rw (c.deref.ensures.value) at (c.in_ok-length.ensures.offsets order)) ∙ ap (λ (xs : List GivenEntry). at_places (entry_bytes order size) (λ place x. place ∷ []) header_length (shaped (written_entries nowhere no_places no_lists (first_uses [] (shapes_of xs)) xs))) in_order in
+    (rw (c.deref.ensures.value) at (c.in_ok-length.ensures.offsets order)) ∙ ap (λ (xs : List GivenEntry). at_places (entry_bytes order size) (λ place x. place ∷ []) (header_length c.unit.inside.version) (shaped (written_entries nowhere no_places no_lists (first_uses [] (shapes_of xs)) xs))) in_order in
     let found = λ (place : ℕ). rw (c.deref-2.ensures.value, c.deref-3.ensures.value, in_order, is) at (c.in_ok-by_place.ensures added place) in
     let numbered = (rw (c.deref-4.ensures.value, c.deref-5.ensures.value) at c.in_ok-offsets_by_number.ensures) ∙ offsets-known c.in_ok-by_place.by_place.items es offsets v.places.items found in
     let P : GivenUnit → Type 0 = λ u. ◌≡◌ {A = UnitPlaces} (record { start = c.args.start; offsets = c.in_ok-offsets_by_number.field-0.items }) (record { start = c.args.start; offsets = offsets_by_number order u.address_size (ordered u) }) in

@@ -50,7 +50,7 @@ returns-in_err-place-clause-end c = λ o.
     let next : c.depth_of_first-next.result ≡ first_depth behind = rw (take_rest, add-one) at (c.depth_of_first-next.ensures c.args.additions.now) in
     let less = step-refused o c.args.size _ _ _ _ _ c.in_ok-code.code _ _ _ (f place) behind (rw (seen-more f c.args.order.now c.loop-i.i first_place c.loop-i-test.true) at (c.loop-i.invariant.step o)) (rw (c.tag-tag.ensures, c.attributes-attributes.ensures, next) at c.in_ok-code.ensures.code) in
     let P : GivenEntry → Type 0 = λ e. AdvancesOrMemory (Err c.in_err-place.field-0.0) c.loop-i.place (length (entry_bytes o c.args.size (entry_with nowhere no_places no_lists c.in_ok-code.code e behind))) in
-    advance-free c.from_residual-in_err-place.result _ c.loop-i.place _ header_length _ p (rw (c.attributes-attributes.ensures, c.saturating_sub.ensures, next) at (c.in_err-place.ensures.end o)) less
+    advance-free c.from_residual-in_err-place.result _ c.loop-i.place _ (header_length c.args.version) _ p (rw (c.attributes-attributes.ensures, c.saturating_sub.ensures, next) at (c.in_err-place.ensures.end o)) less
 
 pub returns-clause-shapes : goal.returns-clause-shapes
 returns-clause-shapes c =

@@ -21,7 +21,7 @@ invariant-loop-i l =
     let all = shaped (written_entries nowhere no_places no_lists uses es) in
     record {
       short : l.place ≤ most_bytes;
-      step : (o : Endian) → IsStep o l.size (map shape_view l.coded.shapes.shapes.items) uses l.coded.codes.items l.coded.offsets.items l.place (codes_of es) (at_places (entry_bytes o l.size) (λ place x. place ∷ []) header_length all) (header_length + length (flat_map (entry_bytes o l.size) all)) (map (looked_up l.additions) (drop l.i l.order));
+      step : (o : Endian) → IsStep o l.size (map shape_view l.coded.shapes.shapes.items) uses l.coded.codes.items l.coded.offsets.items l.place (codes_of es) (at_places (entry_bytes o l.size) (λ place x. place ∷ []) (header_length l.version) all) (header_length l.version + length (flat_map (entry_bytes o l.size) all)) (map (looked_up l.additions) (drop l.i l.order));
       own : AreOwn (map shape_view l.coded.shapes.shapes.items);
       found : AreFound l.coded.shapes;
       notes : IsNotingOn l.additions l.coded.notes es (map (looked_up l.additions) (drop l.i l.order));

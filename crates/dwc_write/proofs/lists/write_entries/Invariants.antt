@@ -7,4 +7,4 @@ use Rattle.dwc_write.proofs.lists.write_entries.Given as goal
 abbrev pub invariant-loop-i : goal.invariant-loop-i
 invariant-loop-i g l =
     let es = map g.T.Listed.listed l.entries in
-    whole (listed_bytes l.initial.lists.order l.size) (listed_relocations l.initial.lists.order l.size) (drop l.i es) l.lists ≡ whole (listed_bytes l.initial.lists.order l.size) (listed_relocations l.initial.lists.order l.size) es l.initial.lists
+    whole (listed_bytes l.version l.initial.lists.order l.size) (listed_relocations l.version l.initial.lists.order l.size) (drop l.i es) l.lists ≡ whole (listed_bytes l.version l.initial.lists.order l.size) (listed_relocations l.version l.initial.lists.order l.size) es l.initial.lists

@@ -83,7 +83,7 @@ returns-clause-form c =
     let ds = descriptions_given c.args.frames in
     let whole : all ≡ xs ++ frame_section_if c.args.order size common ds = c.in_ok-push_optional.ensures.section ∙ ap (λ fs. xs ++ fs) c.in_ok-section.ensures.sections in
     let same : output_sections c.args.order all ≡ output_sections c.args.order xs = ap (output_sections c.args.order) whole ∙ read-same c.args.order c.args.order size common ds xs in
-    λ wanted sized. form-same c.args.order wanted all xs same (c.in_ok-sections.ensures.form wanted sized)
+    λ version wanted versions sized. form-same c.args.order version wanted all xs same (c.in_ok-sections.ensures.form version wanted versions sized)
 
 pub returns-clause-names : goal.returns-clause-names
 returns-clause-names c =

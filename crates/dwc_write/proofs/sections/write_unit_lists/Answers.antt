@@ -11,12 +11,12 @@ use Rattle.dwc_write.proofs.sections.write_unit_lists.Goals as goal
 pub write_lists-requires-clause-fits : goal.write_lists-requires-clause-fits
 write_lists-requires-clause-fits c =
     let are = noted-lists Ranges _ _ _ c.requires.noted.ranged in
-    rw (c.as_slice-ranged.ensures.value) (subst (λ (ls : List ListEntry). All (FitsListed c.args.size) ls) (sym are) (ranges-fit c.args.size _ c.requires.fits))
+    rw (c.as_slice-ranged.ensures.value) (subst (λ (ls : List ListEntry). All (FitsListed c.args.version c.args.size) ls) (sym are) (ranges-fit c.args.version c.args.size _ c.requires.fits))
 
 pub write_lists-requires-2-clause-fits : goal.write_lists-requires-2-clause-fits
 write_lists-requires-2-clause-fits c =
     let are = noted-lists Locations _ _ _ c.requires.noted.located in
-    rw (c.as_slice-located.ensures.value) (subst (λ (ls : List ListEntry). All (FitsListed c.args.size) ls) (sym are) (locations-fit c.args.size _ c.requires.fits c.requires.short))
+    rw (c.as_slice-located.ensures.value) (subst (λ (ls : List ListEntry). All (FitsListed c.args.version c.args.size) ls) (sym are) (locations-fit c.args.version c.args.size _ c.requires.fits c.requires.short))
 
 pub returns-in_err-write_lists : goal.returns-in_err-write_lists
 returns-in_err-write_lists c =
