@@ -11,6 +11,7 @@ use Rattle.dwc_base.specs.Reading.{◌>>=◌}
 use Rattle.dwc_dwarf.specs.LineRows.{LineTable, segments}
 use Rattle.dwc_native.specs.Images.{is_carried_segment, IsImageOf}
 use Rattle.dwc_output.specs.SimulatedLines.{IsSimulated}
+use Rattle.dwc_output.specs.Versions.{files_written}
 use Rattle.dwc_rules.specs.Carried.{CarriedUnit, WantedUnit, synthetic_unit, carried_unit, unit_of_simulated, Module, Compilation}
 use Rattle.dwc_dwarf.specs.ReadUnits.{Unit, units, table_of_unit, segments_of, segments_of_unit}
 use Rattle.dwc_carried.specs.SimulatedUnitRules.{simulated_drafts, simulated_wanted, simulated_in_files, widest_simulated, widest_simulated_lines}
@@ -25,7 +26,7 @@ use Rattle.dwc_rules.specs.Refusals.{Refusal}
 use Rattle.dwc_dwarf.specs.Trees.{Tree}
 use Rattle.dwc_unit.specs.GivenLines.{GivenLines}
 use Rattle.dwc_unit.specs.GivenTrees.{given_trees}
-use Rattle.dwc_unit.specs.GivenUnits.{GivenUnit, IsWritable, AreWritable, ordered}
+use Rattle.dwc_unit.specs.GivenUnits.{GivenUnit, IsWritable, AreWritable, ordered, version_of}
 use Rattle.dwc_write.specs.ReadBack.{ReadsTable, ReadsLines, IsReadUnit, ReadsBack}
 use Rattle.dwc_unit.specs.GivenSegments.{given_segments}
 use Rattle.dwc_unit.specs.UsedTexts.{HaveTexts}
@@ -37,11 +38,15 @@ use Rattle.dwc_carry.specs.MadeUnits.{HasNamesOf, HasWantedLines, AreMadeOf}
 use Rattle.dwc_carry.proofs.MadeLaws.{all-both, all-flat, made-in-order, texts_of_entry}
 
 module _ (at : ℕ → ℕ → Option (ℕ × ℕ)) (size : ℕ) (texts : List (List ℕ)) where
+  -- the files of a table of version 4 that is read back
+  files-old : (v : Unit) (g : GivenLines) (t : LineTable) → v.header.version ≡ 4 → t.files ≡ files_written v.header.version g.files → t.files ≡ g.files
+  files-old v g t old is = is ∙ ap (λ version. files_written version g.files) old
+
   -- a line table that is read back carries the table that it was made of
   carries-lines : (s : Sections) (c : CarriedUnit) (g : GivenLines) (v : Unit) (t : Option LineTable) → table_of_unit c.module_of.sections c.unit ≡ Ok t → HasNamesOf t g
-      → AllZip (IsImageOf c.module_of.functions) (filter (is_carried_segment c.module_of.functions) (segments_of t)) (given_segments g) → ReadsLines s v g g.address_size → CarriesUnit 4 s c v
+      → AllZip (IsImageOf c.module_of.functions) (filter (is_carried_segment c.module_of.functions) (segments_of t)) (given_segments g) → v.header.version ≡ 4 → ReadsLines s v g g.address_size → CarriesUnit 4 s c v
   unfolding segments_of_unit
-  carries-lines s c g v None is_read names images read = record {
+  carries-lines s c g v None is_read names images old read = record {
     input = None;
     input_read = is_read;
     made = None;
@@ -49,7 +54,7 @@ module _ (at : ℕ → ℕ → Option (ℕ × ℕ)) (size : ℕ) (texts : List (
     kept = tt;
     carried = record { input = []; input_read = ap (λ x. x >>= λ t. Ok (segments_of t)) is_read; each = tt };
   }
-  carries-lines s c g v (Some t) is_read names images read =
+  carries-lines s c g v (Some t) is_read names images old read =
       let fs = c.module_of.functions in
       let back : ReadsTable s v g = subst (ReadsLines s v g) names.sized read in
       record {
@@ -57,7 +62,7 @@ module _ (at : ℕ → ℕ → Option (ℕ × ℕ)) (size : ℕ) (texts : List (
         input_read = is_read;
         made = Some back.table;
         made_read = back.table_read;
-        kept = record { version_is = back.version; directories = back.directories ∙ names.directories; files = back.files ∙ names.files };
+        kept = record { version_is = back.version ∙ old; directories = back.directories ∙ names.directories; files = files-old v g back.table old back.files ∙ names.files };
         carried = record {
           input = segments t;
           input_read = ap (λ x. x >>= λ t. Ok (segments_of t)) is_read;
@@ -66,17 +71,17 @@ module _ (at : ℕ → ℕ → Option (ℕ × ℕ)) (size : ℕ) (texts : List (
       }
 
   -- a unit that is read back carries what it was made of
-  carries-unit : (s : Sections) (w : WantedUnit) (u : GivenUnit) (v : Unit) → HasWantedLines w u → IsReadUnit s (ordered u) v → HasLines 4 s w v
-  carries-unit s synthetic_unit u v lines read = subst (ReadsLines s v u.lines) (ap (λ (g : GivenLines). g.address_size) lines) read.lines
-  carries-unit s (carried_unit c) u v lines read = carries-lines s c u.lines v lines.table lines.table_read lines.names lines.images read.lines
-  carries-unit s (unit_of_simulated name translated ms) u v lines read =
+  carries-unit : (s : Sections) (w : WantedUnit) (u : GivenUnit) (v : Unit) → HasWantedLines w u → u.version ≡ 4 → IsReadUnit s (ordered u) v → HasLines 4 s w v
+  carries-unit s synthetic_unit u v lines old read = subst (ReadsLines s v u.lines) (ap (λ (g : GivenLines). g.address_size) lines) read.lines
+  carries-unit s (carried_unit c) u v lines old read = carries-lines s c u.lines v lines.table lines.table_read lines.names lines.images (read.version ∙ old) read.lines
+  carries-unit s (unit_of_simulated name translated ms) u v lines old read =
       let back : ReadsTable s v u.lines = subst (ReadsLines s v u.lines) lines.names.sized read.lines in
       record {
         made = back.table;
         made_read = back.table_read;
-        version_is = back.version;
+        version_is = back.version ∙ (read.version ∙ old);
         directories = back.directories ∙ lines.names.directories;
-        files = back.files ∙ lines.names.files;
+        files = files-old v u.lines back.table (read.version ∙ old) back.files ∙ lines.names.files;
         each = subst (AllZip (λ f segment. IsSimulated name f.0 f.1 segment) (simulated_in_files translated ms)) (sym back.sequences) lines.segments;
       }
 
@@ -88,7 +93,7 @@ module _ (at : ℕ → ℕ → Option (ℕ × ℕ)) (size : ℕ) (texts : List (
   carries-units s number (c ∷ cs) [] us vs made read = absurd made
   carries-units s number (c ∷ cs) (t ∷ ts) [] vs made read = absurd made
   carries-units s number (c ∷ cs) (t ∷ ts) (u ∷ us) [] made read = absurd read
-  carries-units s number (c ∷ cs) (t ∷ ts) (u ∷ us) (v ∷ vs) made read = (carries-unit s c u v made.0.has_lines read.0, carries-units s (suc number) cs ts us vs made.1 read.1)
+  carries-units s number (c ∷ cs) (t ∷ ts) (u ∷ us) (v ∷ vs) made read = (carries-unit s c u v made.0.has_lines made.0.writable.version read.0, carries-units s (suc number) cs ts us vs made.1 read.1)
 
   -- Sections from which such units are read back carry the lines.
   pub lines-carried : (c : Compilation) (ts : List Tree) (us : List GivenUnit) (s : List OutputSection)
@@ -111,14 +116,32 @@ module _ (at : ℕ → ℕ → Option (ℕ × ℕ)) (size : ℕ) (texts : List (
   made-sizes number (c ∷ cs) (t ∷ ts) [] made = absurd made
   made-sizes number (c ∷ cs) (t ∷ ts) (u ∷ us) made = All-cons (λ (u : GivenUnit). u.address_size ≡ size) u us ((made.0).writable).size (made-sizes (suc number) cs ts us made.1)
 
+  -- all are of version 4
+  pub made-versions : (number : ℕ) (cs : List WantedUnit) (ts : List Tree) (us : List GivenUnit) → AreMadeOf at size texts number cs ts us → All (λ u. u.version ≡ 4) us
+  made-versions number [] [] [] made = All-nil (λ (u : GivenUnit). u.version ≡ 4)
+  made-versions number [] [] (u ∷ us) made = absurd made
+  made-versions number [] (t ∷ ts) us made = absurd made
+  made-versions number (c ∷ cs) [] us made = absurd made
+  made-versions number (c ∷ cs) (t ∷ ts) [] made = absurd made
+  made-versions number (c ∷ cs) (t ∷ ts) (u ∷ us) made = All-cons (λ (u : GivenUnit). u.version ≡ 4) u us made.0.writable.version (made-versions (suc number) cs ts us made.1)
+
+  -- and so is the version that they share
+  pub made-version : (number : ℕ) (cs : List WantedUnit) (ts : List Tree) (us : List GivenUnit) → AreMadeOf at size texts number cs ts us → version_of (map ordered us) ≡ 4
+  made-version number [] [] [] made = refl
+  made-version number [] [] (u ∷ us) made = absurd made
+  made-version number [] (t ∷ ts) us made = absurd made
+  made-version number (c ∷ cs) [] us made = absurd made
+  made-version number (c ∷ cs) (t ∷ ts) [] made = absurd made
+  made-version number (c ∷ cs) (t ∷ ts) (u ∷ us) made = made.0.writable.version
+
   -- the widest lines of a unit that is wanted
   abbrev widest_wanted : WantedUnit → ℕ
   widest_wanted synthetic_unit = 0
   widest_wanted (carried_unit c) = widest_lines_of c
   widest_wanted (unit_of_simulated name translated ms) = widest_simulated_lines name (simulated_in_files translated ms)
 
-  unit-widest : (w : WantedUnit) (u : GivenUnit) → HasWantedLines w u → widest_table_for u.lines.address_size u.lines ≤ widest_wanted w
-  unit-widest synthetic_unit u lines = subst (λ (g : GivenLines). widest_table_for g.address_size g ≤ 0) (sym lines) (omega arith)
+  unit-widest : (w : WantedUnit) (u : GivenUnit) → HasWantedLines w u → widest_table_for 4 u.lines.address_size u.lines ≤ widest_wanted w
+  unit-widest synthetic_unit u lines = subst (λ (g : GivenLines). widest_table_for 4 g.address_size g ≤ 0) (sym lines) (omega arith)
   unit-widest (carried_unit c) u lines = lines.widest
   unit-widest (unit_of_simulated name translated ms) u lines = lines.widest
 
@@ -129,7 +152,8 @@ module _ (at : ℕ → ℕ → Option (ℕ × ℕ)) (size : ℕ) (texts : List (
   made-widest number (c ∷ cs) [] us made = absurd made
   made-widest number (c ∷ cs) (t ∷ ts) [] made = absurd made
   made-widest number (c ∷ cs) (t ∷ ts) (u ∷ us) made =
-      rw (sum_by-cons (widest_unit Line) (ordered u) (map ordered us), sum_by-cons widest_wanted c cs) (omega (arith, unit-widest c u made.0.has_lines, made-widest (suc number) cs ts us made.1))
+      let own : widest_unit Line (ordered u) ≤ widest_wanted c = subst (λ version. widest_table_for version u.lines.address_size u.lines ≤ widest_wanted c) (sym made.0.writable.version) (unit-widest c u made.0.has_lines) in
+      rw (sum_by-cons (widest_unit Line) (ordered u) (map ordered us), sum_by-cons widest_wanted c cs) (omega (arith, own, made-widest (suc number) cs ts us made.1))
 
   -- synthetic units have no lines
   widest-carried : (us : List CarriedUnit) → sum_by widest_wanted (map carried_unit us) ≡ sum_by widest_lines_of us
@@ -155,23 +179,24 @@ module _ (at : ℕ → ℕ → Option (ℕ × ℕ)) (size : ℕ) (texts : List (
   widest-given number c ts us made =
       omega (arith, made-widest number (wanted_units c) ts us made, sum_by-append widest_wanted (module_units c) (simulated_wanted (is_begun c.modules) c.next_id c.modules), widest-modules c.modules, widest-behind (is_begun c.modules) c.next_id c.modules)
 
-  each-writable : (number : ℕ) (cs : List WantedUnit) (ts : List Tree) (us : List GivenUnit) → AreMadeOf at size texts number cs ts us → All (IsWritable size) (map ordered us)
-  each-writable number [] [] [] made = All-nil (IsWritable size)
+  each-writable : (number : ℕ) (cs : List WantedUnit) (ts : List Tree) (us : List GivenUnit) → AreMadeOf at size texts number cs ts us → All (IsWritable 4 size) (map ordered us)
+  each-writable number [] [] [] made = All-nil (IsWritable 4 size)
   each-writable number [] [] (u ∷ us) made = absurd made
   each-writable number [] (t ∷ ts) us made = absurd made
   each-writable number (c ∷ cs) [] us made = absurd made
   each-writable number (c ∷ cs) (t ∷ ts) [] made = absurd made
-  each-writable number (c ∷ cs) (t ∷ ts) (u ∷ us) made = All-cons (IsWritable size) (ordered u) (map ordered us) made.0.writable (each-writable (suc number) cs ts us made.1)
+  each-writable number (c ∷ cs) (t ∷ ts) (u ∷ us) made = All-cons (IsWritable 4 size) (ordered u) (map ordered us) made.0.writable (each-writable (suc number) cs ts us made.1)
 
   -- All of them can be written.
   pub made-writable : (number : ℕ) (cs : List WantedUnit) (ts : List Tree) (us : List GivenUnit) → AreMadeOf at size texts number cs ts us → AreWritable (map ordered us)
-  made-writable number [] [] [] made = All-nil (IsWritable 8)
+  made-writable number [] [] [] made = All-nil (IsWritable 4 8)
   made-writable number [] [] (u ∷ us) made = absurd made
   made-writable number [] (t ∷ ts) us made = absurd made
   made-writable number (c ∷ cs) [] us made = absurd made
   made-writable number (c ∷ cs) (t ∷ ts) [] made = absurd made
   made-writable number (c ∷ cs) (t ∷ ts) (u ∷ us) made =
-      subst (λ n. All (IsWritable n) (map ordered (u ∷ us))) (sym made.0.writable.size) (each-writable number (c ∷ cs) (t ∷ ts) (u ∷ us) made)
+      subst (λ version. All (IsWritable version u.address_size) (map ordered (u ∷ us))) (sym made.0.writable.version)
+      (subst (λ n. All (IsWritable 4 n) (map ordered (u ∷ us))) (sym made.0.writable.size) (each-writable number (c ∷ cs) (t ∷ ts) (u ∷ us) made))
 
   -- ---- texts and trees
 

@@ -1,6 +1,7 @@
 -- What is emitted of a compilation, from what is transformed and what is written.
 use Rattle.std.proofs.Common.{◌≡◌, ◌↔◌, ℕ, List, map, length, arith, Option, Some, None, Result, Ok, Err, Vec, All, ◌<◌, ◌≤◌, ◌^◌, inl, inr, refl, ap, sym, ◌∙◌, subst, Bool, true, false}
-use Rattle.std.specs.Prelude.{◌⊎◌, option_map}
+use Rattle.std.specs.Prelude.{◌⊎◌, [], if◌then◌else◌, option_map}
+use Rattle.std.specs.List.{flat_map}
 use Rattle.std.specs.Option.{option_or}
 use Rattle.std.specs.Global.{Global}
 use Rattle.dwc_base.specs.declared.records.Endian.{Endian}
@@ -13,7 +14,7 @@ use Rattle.dwc_base.specs.Outputs.{output_sections, section_view}
 use Rattle.dwc_native.specs.ScopesKept.{TranslationsKeepScopes}
 use Rattle.dwc_output.specs.TreeReading.{CarriesTrees}
 use Rattle.dwc_carried.specs.Forests.{first_refusal, frame_descriptions, wanted_units, trees_made}
-use Rattle.dwc_dwarf.specs.TreeLaws.{HasTextsOnce, have_short_expressions}
+use Rattle.dwc_dwarf.specs.TreeLaws.{HasTextsOnce, have_short_expressions, texts_ended}
 use Rattle.dwc_carried.specs.OutputCarried.{widest}
 use Rattle.dwc_output.specs.OutputForm.{HaveTargetForm, HasDistinctNames, are_of_output}
 use Rattle.dwc_output.specs.Fields.{IsRelocated}
@@ -21,6 +22,8 @@ use Rattle.dwc_native.specs.CallFrames.{CommonEntry}
 use Rattle.dwc_output.specs.FramesCarried.{FramesCarried, others_in}
 use Rattle.dwc_rules.specs.Refusals.{of_frame}
 use Rattle.dwc_dwarf.specs.Trees.{Tree}
+use Rattle.dwc_output.specs.NewWidest.{each_once}
+use Rattle.dwc_output.specs.Versions.{are_short_in, is_old}
 use Rattle.dwc_output.specs.WidestTrees.{widest_of_trees}
 use Rattle.dwc_unit.specs.GivenTrees.{given_trees}
 use Rattle.dwc_rules.specs.Carried.{Compilation}
@@ -29,12 +32,13 @@ use Rattle.dwc_isa.specs.Registers.{Registers}
 use Rattle.dwc_addr.specs.Compilations.{CompilationValue}
 use Rattle.dwc_section.specs.declared.error.WriteError.{WriteError}
 use Rattle.dwc_section.specs.declared.error.WriteError.TheVariants as write
-use Rattle.dwc_unit.specs.GivenUnits.{GivenUnit, AreWritable, ordered, size_of}
+use Rattle.dwc_unit.specs.GivenUnits.{GivenUnit, AreWritable, ordered, size_of, version_of}
 use Rattle.dwc_frames.specs.Frames as frames
 use Rattle.dwc_frames.specs.declared.frames.FrameTable.{FrameTable}
 use Rattle.dwc_write.specs.ReadBack.{ReadsBack}
 use Rattle.dwc_unit.specs.UsedTexts.{HaveTexts}
-use Rattle.dwc_unit.specs.WidestGiven.{widest_said, IsWideRefusal}
+use Rattle.dwc_unit.specs.LineNames.{names_of_unit}
+use Rattle.dwc_unit.specs.WidestGiven.{widest_new, widest_said, IsWideRefusal}
 use Rattle.dwc_write.specs.SpelledOutput.{AreSpelled}
 use Rattle.dwc_section.specs.Writers.{IsSound, IsPast}
 use Rattle.dwc_carry.specs.declared.error.DebugError.{DebugError}
@@ -44,7 +48,7 @@ use Rattle.dwc_carry.specs.Transformed.{IsTransformed}
 use Rattle.dwc_carry.specs.Emits.{PassesLimit, Emits}
 use Rattle.dwc_unit.specs.Renumbered.{place_at}
 use Rattle.dwc_carry.proofs.FramesRefused.{IsTable, frames-refused, refused-first, section-sized, table-refused, table-section, table-widest, unit-there}
-use Rattle.dwc_carry.proofs.CompositionLaws.{forest-is, lines-carried, made-sizes, made-trees, widest-given, made-writable}
+use Rattle.dwc_carry.proofs.CompositionLaws.{forest-is, lines-carried, made-sizes, made-trees, made-version, made-versions, widest-given, made-writable}
 use Rattle.dwc_carry.proofs.RefusalLaws.{refuses-more, unmapped}
 use Rattle.dwc_carry.proofs.ScopesMade.{MapsNumber, contexts-carried, locations-carried, scopes-carried}
 
@@ -102,6 +106,14 @@ module _ (order : Endian) (size : ℕ) (registers : Registers) (entry : Option C
     same-trees : given_trees texts (map ordered us) ≡ trees_made input
     same-trees = made-trees size texts (wanted_units input) (trees_made input) us t.made
 
+    -- the units are of version 4
+    of-version : version_of (map ordered us) ≡ 4
+    of-version = made-version (place_at us) size texts 0 (wanted_units input) (trees_made input) us t.made
+
+    -- so expressions are short enough where they are so in version 4
+    same-short : have_short_expressions (trees_made input) ≡ are_short_in (version_of (map ordered us)) (given_trees texts (map ordered us))
+    same-short = ap have_short_expressions (sym same-trees) ∙ ap (λ version. are_short_in version (given_trees texts (map ordered us))) (sym of-version)
+
     module _ (table : Option FrameTable) (framed : IsTable entry (frame_descriptions input) table) where
       -- a table that describes a function stands with a unit
       described-there : 0 < length (frame_descriptions input) → 0 < length us
@@ -125,14 +137,15 @@ module _ (order : Endian) (size : ℕ) (registers : Registers) (entry : Option C
 
       -- what is written is emitted
       pub emits-sections : (s : Vec DwarfSection Global) → ReadsBack order (map ordered us) (map section_view s.items) → CarriesTrees order (given_trees texts (map ordered us)) (map section_view s.items) → HasTextsOnce (output_sections order (map section_view s.items))
-          → ((n : ℕ) → All (λ u. u.address_size ≡ n) us → HaveTargetForm 4 n (units (output_sections order (map section_view s.items))).items)
+          → ((version n : ℕ) → All (λ u. u.version ≡ version) us → All (λ u. u.address_size ≡ n) us → HaveTargetForm version n (units (output_sections order (map section_view s.items))).items)
           → frames.told_refusal {A = Vec DwarfSection Global} (Ok s) ≡ frames.first_refusal (frames.refused_frames table)
-          → (frames.first_refusal (frames.refused_frames table) ≡ None → ◌≡◌ {A = Result (Vec DwarfSection Global) WriteError} (Ok s) (Err (write.TooLarge Expression)) ↔ (have_short_expressions (given_trees texts (map ordered us)) ≡ false))
+          → (frames.first_refusal (frames.refused_frames table) ≡ None → ◌≡◌ {A = Result (Vec DwarfSection Global) WriteError} (Ok s) (Err (write.TooLarge Expression)) ↔ (are_short_in (version_of (map ordered us)) (given_trees texts (map ordered us)) ≡ false))
           → HasDistinctNames (map section_view s.items) → All (IsRelocated (output_sections order (map section_view s.items))) (others_in (map section_view s.items))
-          → FramesCarried order (size_of (map ordered us)) (frames.common_given table) (frames.descriptions_given table) (map section_view s.items) → All (IsSound order) (map section_view s.items) → AreSpelled order (map section_view s.items) → are_of_output 4 (map section_view s.items) ≡ true
+          → FramesCarried order (size_of (map ordered us)) (frames.common_given table) (frames.descriptions_given table) (map section_view s.items) → All (IsSound order) (map section_view s.items) → AreSpelled order (map section_view s.items) → are_of_output (version_of (map ordered us)) (map section_view s.items) ≡ true
           → ((fs : List Function) → TranslationsKeepScopes fs) → MapsNumber → Emits order size registers entry c (Ok s)
       emits-sections s back says once form good long names relocated framed_so sound spelled known keep number_maps =
           let sizes = made-sizes (place_at us) size texts 0 (wanted_units input) (trees_made input) us t.made in
+          let versions = made-versions (place_at us) size texts 0 (wanted_units input) (trees_made input) us t.made in
           let none = emits-accepted (sym good) in (
             none,
             record {
@@ -146,16 +159,16 @@ module _ (order : Endian) (size : ℕ) (registers : Registers) (entry : Option C
                 locations = locations-carried number_maps order size registers entry c texts us none t.made keep;
                 contexts = contexts-carried number_maps order size registers entry c texts us none t.made keep;
                 texts = once;
-                form = form size sizes;
+                form = form 4 size versions sizes;
                 names = names;
-                known = known;
+                known = subst (λ version. are_of_output version (map section_view s.items) ≡ true) of-version known;
                 of_5 = λ is. absurd (omega (arith, is));
                 relocated = relocated;
                 frames = framed_so ∙ table-section (frame_descriptions input) order (size_of (map ordered us)) entry table framed ∙ section-sized order size entry (frame_descriptions input) us sizes described-there;
               };
               sound = sound;
               spelled = spelled;
-              short = ap have_short_expressions (sym same-trees) ∙ short-written (have_short_expressions (given_trees texts (map ordered us))) s (long (sym good));
+              short = same-short ∙ short-written (are_short_in (version_of (map ordered us)) (given_trees texts (map ordered us))) s (long (sym good));
             },
           )
 
@@ -163,15 +176,20 @@ module _ (order : Endian) (size : ℕ) (registers : Registers) (entry : Option C
       said-widest : (name : SectionName) → widest_said name texts (map ordered us) ≤ widest name input
       said-widest = go
         where
-          same : (name : SectionName) → widest_of_trees name (given_trees texts (map ordered us)) ≤ widest_of_trees name (trees_made input)
-          same name = subst (λ ts. widest_of_trees name (given_trees texts (map ordered us)) ≤ widest_of_trees name ts) same-trees (omega arith)
+          same : (name : SectionName) → (if is_old (version_of (map ordered us)) then widest_of_trees name (given_trees texts (map ordered us)) else widest_new name (given_trees texts (map ordered us))) ≤ widest_of_trees name (trees_made input)
+          same name =
+              subst (λ version. (if is_old version then widest_of_trees name (given_trees texts (map ordered us)) else widest_new name (given_trees texts (map ordered us))) ≤ widest_of_trees name (trees_made input)) (sym of-version)
+              (subst (λ ts. widest_of_trees name (given_trees texts (map ordered us)) ≤ widest_of_trees name ts) same-trees (omega arith))
+
+          names : length (texts_ended (if is_old (version_of (map ordered us)) then [] else each_once (flat_map (names_of_unit texts) (map ordered us)))) ≤ 0
+          names = subst (λ version. length (texts_ended (if is_old version then [] else each_once (flat_map (names_of_unit texts) (map ordered us)))) ≤ 0) (sym of-version) (omega arith)
 
           go : (name : SectionName) → widest_said name texts (map ordered us) ≤ widest name input
           go Line = widest-given (place_at us) size texts 0 input (trees_made input) us t.made
           go Abbrev = same Abbrev
           go Addr = same Addr
           go Info = same Info
-          go LineStr = same LineStr
+          go LineStr = names
           go Loc = same Loc
           go Loclists = same Loclists
           go Ranges = same Ranges
@@ -179,7 +197,7 @@ module _ (order : Endian) (size : ℕ) (registers : Registers) (entry : Option C
           go Str = same Str
           go StrOffsets = same StrOffsets
           go CuIndex = same CuIndex
-          go Frame = omega arith
+          go Frame = omega (arith, same Frame)
 
       -- a section of frames that is too large
       frames-large : (name : SectionName) → IsPast Frame (frames.widest_given_frames table) name → 2 ^ 31 ≤ widest name input
@@ -188,19 +206,19 @@ module _ (order : Endian) (size : ℕ) (registers : Registers) (entry : Option C
 
       -- a section is refused where no expression is too long
       sections-large : (name : SectionName) → frames.first_refusal (frames.refused_frames table) ≡ None
-          → ◌≡◌ {A = Result (Vec DwarfSection Global) WriteError} (Err (write.TooLarge (Section name))) (Err (write.TooLarge Expression)) ↔ (have_short_expressions (given_trees texts (map ordered us)) ≡ false)
+          → ◌≡◌ {A = Result (Vec DwarfSection Global) WriteError} (Err (write.TooLarge (Section name))) (Err (write.TooLarge Expression)) ↔ (are_short_in (version_of (map ordered us)) (given_trees texts (map ordered us)) ≡ false)
           → 2 ^ 31 ≤ widest name input → Emits order size registers entry c (Err (of_writing (write.TooLarge (Section name))))
-      sections-large name none long large = (emits-accepted none, (ap have_short_expressions (sym same-trees) ∙ short-refused (have_short_expressions (given_trees texts (map ordered us))) name long, large))
+      sections-large name none long large = (emits-accepted none, (same-short ∙ short-refused (are_short_in (version_of (map ordered us)) (given_trees texts (map ordered us))) name long, large))
 
       -- writing is refused
       pub emits-large : (e : WriteError) → frames.told_refusal {A = Vec DwarfSection Global} (Err e) ≡ frames.first_refusal (frames.refused_frames table)
-          → (frames.first_refusal (frames.refused_frames table) ≡ None → ◌≡◌ {A = Result (Vec DwarfSection Global) WriteError} (Err e) (Err (write.TooLarge Expression)) ↔ (have_short_expressions (given_trees texts (map ordered us)) ≡ false))
+          → (frames.first_refusal (frames.refused_frames table) ≡ None → ◌≡◌ {A = Result (Vec DwarfSection Global) WriteError} (Err e) (Err (write.TooLarge Expression)) ↔ (are_short_in (version_of (map ordered us)) (given_trees texts (map ordered us)) ≡ false))
           → IsWideRefusal texts (map ordered us) e ⊎ frames.IsFrameRefusal (frames.widest_given_frames table) e → Emits order size registers entry c (Err (of_writing e))
       emits-large (write.InvalidFrameCodeOffset symbol) so long large = first-refused ∙ ap (λ r. option_map in_reading (option_map of_frame r)) (sym so)
       emits-large (write.InvalidFrameDataOffset symbol) so long large = first-refused ∙ ap (λ r. option_map in_reading (option_map of_frame r)) (sym so)
       emits-large (write.TooLarge (Section name)) so long (inl large) = sections-large name (sym so) (long (sym so)) (omega (arith, large, said-widest name))
       emits-large (write.TooLarge (Section name)) so long (inr past) = sections-large name (sym so) (long (sym so)) (frames-large name past)
-      emits-large (write.TooLarge Expression) so long (inl large) = (emits-accepted (sym so), ap have_short_expressions (sym same-trees) ∙ large.1)
+      emits-large (write.TooLarge Expression) so long (inl large) = (emits-accepted (sym so), same-short ∙ large.1)
       emits-large (write.TooLarge Expression) so long (inr past) = absurd past
       emits-large (write.TooLarge Addend) so long (inl large) = absurd (cc)
       emits-large (write.TooLarge Addend) so long (inr past) = absurd past

@@ -26,13 +26,13 @@ module _ (fs : List Function) (size : ℕ) (s : Sections) where
   kept us u (Some last) h = kept-one us u last h
 
   -- a unit that names a table, or none
-  pub last-carried : (us : List GivenUnit) (u : GivenUnit) (id : UnitId) (h : UnitHeader) (o : Option ℕ) (files : UnitFiles) (last : Option LastLines) → id.index ≡ length us → u.address_size ≡ size → IsLast fs size s us last
+  pub last-carried : (us : List GivenUnit) (u : GivenUnit) (id : UnitId) (h : UnitHeader) (o : Option ℕ) (files : UnitFiles) (last : Option LastLines) → id.index ≡ length us → u.version ≡ 4 → u.address_size ≡ size → IsLast fs size s us last
       → CarriesNamed fs s h size o files u.lines → IsLast fs size s (us ++ u ∷ []) (last_after o h.address_size (text_base s h) files id last)
-  last-carried us u id h None files last at same known named = kept us u last known
-  last-carried us u id h (Some offset) files last at same known named =
+  last-carried us u id h None files last at old same known named = kept us u last known
+  last-carried us u id h (Some offset) files last at old same known named =
       let here : (v : GivenUnit) → v ≡ get_or (us ++ u ∷ []) id.index v → v ≡ u = λ v is. is ∙ ap (λ i. get_or (us ++ u ∷ []) i v) at ∙ get_or-append_seam us u [] v in
-      let Q : GivenUnit → Type 0 = λ v. (v.address_size ≡ size) × CarriesTableAt fs s h.address_size (text_base s h) size offset files v.lines in
+      let Q : GivenUnit → Type 0 = λ v. (v.version ≡ 4) × ((v.address_size ≡ size) × CarriesTableAt fs s h.address_size (text_base s h) size offset files v.lines) in
       record {
         within = omega (arith, at, length-append us (u ∷ []));
-        carries = λ v is. subst Q (sym (here v is)) (same, named);
+        carries = λ v is. subst Q (sym (here v is)) (old, (same, named));
       }

@@ -24,11 +24,12 @@ use Rattle.dwc_carry.proofs.SimulatedMoves.{unit-moves}
 
 -- ---- what it begins with
 
-pub begins-root : (size : ℕ) (lines : GivenLines) (t : RootTexts) (list : RangeList) → BeginsWith size lines (simulated_root_addition t list) (root_given size lines t list)
-begins-root size lines t list = record { size_is = refl; lines_are = refl; others = []; is = refl }
+pub begins-root : (size : ℕ) (lines : GivenLines) (t : RootTexts) (list : RangeList) → BeginsWith size lines (simulated_root_addition t list) (root_given 4 size lines t list)
+begins-root size lines t list = record { version_is = refl; size_is = refl; lines_are = refl; others = []; is = refl }
 
 pub begins-more : (size : ℕ) (lines : GivenLines) (root e : Addition) (u : GivenUnit) → BeginsWith size lines root u → BeginsWith size lines root (with_entry e u)
 begins-more size lines root e u begins = record {
+  version_is = begins.version_is;
   size_is = begins.size_is;
   lines_are = begins.lines_are;
   others = begins.others ++ e ∷ [];
@@ -42,8 +43,9 @@ begins-all size lines root (e ∷ es) u begins = begins-all size lines root es (
 -- ---- the whole
 
 -- It can be written, where its line program is ended.
-pub writable : (size : ℕ) (lines : GivenLines) (t : RootTexts) (list : RangeList) (u : GivenUnit) → lines.begun ≡ None → lines.address_size ≡ Some size → BeginsWith size lines (simulated_root_addition t list) u → IsWritable size (ordered u)
+pub writable : (size : ℕ) (lines : GivenLines) (t : RootTexts) (list : RangeList) (u : GivenUnit) → lines.begun ≡ None → lines.address_size ≡ Some size → BeginsWith size lines (simulated_root_addition t list) u → IsWritable 4 size (ordered u)
 writable size lines t list u ended sized begins = record {
+  version = begins.version_is;
   size = begins.size_is;
   ended = ap (λ (l : GivenLines). l.begun) begins.lines_are ∙ ended;
   named = ap (λ es. names_lines (in_file_order es)) begins.is ∙ sym (ap (λ (l : GivenLines). is_some l.address_size) begins.lines_are ∙ ap is_some sized);
@@ -51,7 +53,7 @@ writable size lines t list u ended sized begins = record {
 
 -- A unit that is made of drafts says others, where they are these with numbers put to places.
 pub simulated-made : (at : ℕ → ℕ → Option (ℕ × ℕ)) (size : ℕ) (table : List (List ℕ)) (number : ℕ) (w : WantedUnit) (ds es : List Draft) (u : GivenUnit) → HasWantedLines w u → IsSimulated number table ds u
-    → map (renumbered_entry at) (settled_unit (λ goal. None) ds) ≡ settled_unit (λ goal. None) es → IsWritable size (ordered u) → IsMadeOf at size table number w (settled_unit (λ goal. None) es) u
+    → map (renumbered_entry at) (settled_unit (λ goal. None) ds) ≡ settled_unit (λ goal. None) es → IsWritable 4 size (ordered u) → IsMadeOf at size table number w (settled_unit (λ goal. None) es) u
 simulated-made at size table number w ds es u lines so moved can = record {
   has_lines = lines;
   depths = draft_depths ds;
@@ -70,7 +72,7 @@ place-there at number place u leads dense within =
 
 -- The unit of a path is made as it is wanted.
 pub whole-made : (translated : ℕ → Bool) (at : ℕ → ℕ → Option (ℕ × ℕ)) (size : ℕ) (table : List (List ℕ)) (w : WantedUnit) (path : List ℕ) (number : ℕ) (pointers : List TreeValue) (ms : List Module) (u : GivenUnit) → HasWantedLines w u
-    → IsSimulated number table (simulated_unit translated path number pointers ms) u → LeadsTo at number (u ∷ []) → IsWritable size (ordered u) → IsMadeOf at size table number w (settled_unit (λ goal. None) (simulated_unit translated path number (map (renumbered at) pointers) ms)) u
+    → IsSimulated number table (simulated_unit translated path number pointers ms) u → LeadsTo at number (u ∷ []) → IsWritable 4 size (ordered u) → IsMadeOf at size table number w (settled_unit (λ goal. None) (simulated_unit translated path number (map (renumbered at) pointers) ms)) u
 unfolding simulated_unit
 whole-made translated at size table w path number pointers ms u lines so leads can =
     let order = so.drafted.order in

@@ -40,11 +40,11 @@ module _ (texts : List (List ℕ)) (path : List ℕ) (t : RootTexts) (known : Al
       (All-nil HasTexts)
 
   -- A root with a list of the intervals of code.
-  pub root-simulated : (number size : ℕ) (lines : GivenLines) (list : RangeList) (whole : List Interval) → map interval_of list.ranges.items ≡ whole → IsSimulated number texts (simulated_root path whole ∷ []) (root_given size lines t list)
+  pub root-simulated : (number size : ℕ) (lines : GivenLines) (list : RangeList) (whole : List Interval) → map interval_of list.ranges.items ≡ whole → IsSimulated number texts (simulated_root path whole ∷ []) (root_given 4 size lines t list)
   root-simulated number size lines list whole is = record {
     drafted = record {
       order = record { counted = refl; some = omega arith; root = refl; parents = λ place above within. absurd (omega (arith, above, within)) };
-      leads = numbered-leads (root_given size lines t list) refl;
+      leads = numbered-leads (root_given 4 size lines t list) refl;
       numbers = 0 ∷ [];
       numbered = record { counted = refl; places = places; told = (tt, tt) };
       says = rw (producer.is, name.is, directory.is, is) refl;

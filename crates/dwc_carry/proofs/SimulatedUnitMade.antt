@@ -56,10 +56,10 @@ use Rattle.dwc_carry.proofs.SimulatedSteps.{modules-begun}
 
 pub unit-typed : (size : ℕ) (path : List ℕ) (fs : List (ℕ × Function)) (middle after : List (List ℕ)) (t : RootTexts) (types : TypeTexts) (list : RangeList) (u v : GivenUnit) → Grows middle after
     → AllZip (IsNumbered middle) (root_names path) (root_texts_of t) → AllZip (IsNumbered after) type_names (type_texts_of types) → AreRanges list.ranges.items (intervals_of fs)
-    → u ≡ root_given size (simulated_program size (path_name path) fs) t list → v ≡ with_additions (type_additions types) u → IsTyped size path fs after v
+    → u ≡ root_given 4 size (simulated_program size (path_name path) fs) t list → v ≡ with_additions (type_additions types) u → IsTyped size path fs after v
 unit-typed size path fs middle after t types list u v grows named typed ranges root is =
     let program : GivenLines = simulated_program size (path_name path) fs in
-    let given : GivenUnit = root_given size program t list in
+    let given : GivenUnit = root_given 4 size program t list in
     let whole : v ≡ with_additions (type_additions types) given = is ∙ ap (with_additions (type_additions types)) root in
     let says : (number : ℕ) → IsSimulated number after (simulated_root path (intervals_of fs) ∷ base_types) (with_additions (type_additions types) given) =
     λ number. types-simulated number middle after (simulated_root path (intervals_of fs)) given types grows (root-simulated middle path t named number size program list (intervals_of fs) ranges.say) typed in
@@ -93,7 +93,7 @@ widest-same (f ∷ fs) =
     ∙ ap (λ n. widest_of f + n) (widest-same fs)
     ∙ sym (sum_by-cons widest_of f fs)
 
-program-widest : (name : List ℕ) (size : ℕ) (fs : List (ℕ × Function)) → widest_table_for (Some size) (simulated_program size name fs) ≤ widest_simulated_lines name fs
+program-widest : (name : List ℕ) (size : ℕ) (fs : List (ℕ × Function)) → widest_table_for 4 (Some size) (simulated_program size name fs) ≤ widest_simulated_lines name fs
 program-widest name size fs =
     let header : ℕ = widest_header [] (record { directory = 0; name = name } ∷ []) in
     subst (λ n. header + n ≤ header + sum_by widest_of fs) (sym (widest-same fs)) (same (header + sum_by widest_of fs))
@@ -105,7 +105,7 @@ simulated-lines : (name : List ℕ) (size : ℕ) (fs : List (ℕ × Function)) (
 simulated-lines name size fs u fit is = record {
   names = subst (HasNames [] (record { directory = 0; name = name } ∷ [])) (sym is) (record { size = size; sized = refl; directories = refl; files = refl });
   segments = subst (λ (g : GivenLines). AllZip (λ f segment. Lines.IsSimulated name f.0 f.1 segment) fs (given_segments g)) (sym is) (program-simulated name size fs (All-weaker CanWrite (λ f. CanSimulate f.0 f.1) (λ f can. can.lists) fs fit));
-  widest = subst (λ (g : GivenLines). widest_table_for g.address_size g ≤ widest_simulated_lines name fs) (sym is) (program-widest name size fs);
+  widest = subst (λ (g : GivenLines). widest_table_for 4 g.address_size g ≤ widest_simulated_lines name fs) (sym is) (program-widest name size fs);
 }
 
 -- ---- the whole unit

@@ -34,13 +34,14 @@ use Rattle.dwc_carry.proofs.SyntheticMade.{synthetic-made}
 -- the unit up to its context
 abbrev front_given : ℕ → SyntheticTexts → Memory → GivenUnit
 front_given size t m = record {
+  version = 4;
   address_size = size;
   lines = no_lines None;
   places = places_from 0 (root_addition t ∷ (first_additions t ++ context_additions t m));
   additions = root_addition t ∷ (first_additions t ++ context_additions t m);
 }
 
-three : (size : ℕ) (t : SyntheticTexts) (m : Memory) → with_additions (context_additions t m) (with_additions (first_additions t) (with_attributes 0 (root_attributes t) (new_unit size (no_lines None)))) ≡ front_given size t m
+three : (size : ℕ) (t : SyntheticTexts) (m : Memory) → with_additions (context_additions t m) (with_additions (first_additions t) (with_attributes 0 (root_attributes t) (new_unit 4 size (no_lines None)))) ≡ front_given size t m
 three size t (defined offset) = refl
 three size t no_memory = refl
 three size t (imported definition base) = refl
@@ -50,7 +51,7 @@ four size t (defined offset) = refl
 four size t no_memory = refl
 four size t (imported definition base) = refl
 
-pub front-is : (size : ℕ) (t : SyntheticTexts) (m : Memory) (u0 u1 u2 u3 : GivenUnit) → u0 ≡ new_unit size (no_lines None) → u1 ≡ with_attributes 0 (root_attributes t) u0 → u2 ≡ with_additions (first_additions t) u1 → u3 ≡ with_additions (context_additions t m) u2
+pub front-is : (size : ℕ) (t : SyntheticTexts) (m : Memory) (u0 u1 u2 u3 : GivenUnit) → u0 ≡ new_unit 4 size (no_lines None) → u1 ≡ with_attributes 0 (root_attributes t) u0 → u2 ≡ with_additions (first_additions t) u1 → u3 ≡ with_additions (context_additions t m) u2
     → u3 ≡ front_given size t m
 front-is size t m u0 u1 u2 u3 e0 e1 e2 e3 =
     e3 ∙ ap (with_additions (context_additions t m)) (e2 ∙ ap (with_additions (first_additions t)) (e1 ∙ ap (with_attributes 0 (root_attributes t)) e0)) ∙ three size t m

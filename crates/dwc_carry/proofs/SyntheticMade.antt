@@ -176,10 +176,10 @@ module _ (size number : ℕ) (table : List (List ℕ)) (t : SyntheticTexts) (set
     texts no_memory = plain-texts
     texts (imported definition base) = plain-texts
 
-    writable : (m : Memory) → IsWritable size (ordered (synthetic_given size t m))
-    writable (defined offset) = record { size = refl; ended = refl; named = refl }
-    writable no_memory = record { size = refl; ended = refl; named = refl }
-    writable (imported definition base) = record { size = refl; ended = refl; named = refl }
+    writable : (m : Memory) → IsWritable 4 size (ordered (synthetic_given size t m))
+    writable (defined offset) = record { version = refl; size = refl; ended = refl; named = refl }
+    writable no_memory = record { version = refl; size = refl; ended = refl; named = refl }
+    writable (imported definition base) = record { version = refl; size = refl; ended = refl; named = refl }
 
     -- The unit is made as it is wanted.
     pub synthetic-made : (m : Memory) (at : ℕ → ℕ → Option (ℕ × ℕ)) → LeadsTo at number (synthetic_given size t m ∷ []) → IsMadeOf at size table number synthetic_unit (synthetic_tree number set_memory m) (synthetic_given size t m)

@@ -63,17 +63,17 @@ module _ (registers : Registers) (k : CloneSource) (compile : Bool) (table : Opt
   entries-refused e answers = clone-refused registers k compile table c m first number kept of e none (answered (Err e) answers)
 
   -- the unit is added
-  pub unit-added : (made : GivenUnit) (before after : Dwarf) (id : UnitId) (last behind : Option LastLines) → begun.address_size ≡ size → AnswersCloned registers k kept old new begun (Ok made)
+  pub unit-added : (made : GivenUnit) (before after : Dwarf) (id : UnitId) (last behind : Option LastLines) → begun.version ≡ 4 → begun.address_size ≡ size → AnswersCloned registers k kept old new begun (Ok made)
       → number ≡ length before.units.units.items → old ≡ before.strings → new ≡ after.strings → after.units.units.items ≡ before.units.units.items ++ made ∷ [] → id.index ≡ length before.units.units.items
       → IsLast k.transform.now size k.unit.now.sections before.units.units.items last
       → behind ≡ last_after table k.unit.now.header.address_size (text_base k.unit.now.sections k.unit.now.header) k.files id last
       → (option_map in_reading (first_of (refusals_of c (unit_read c.sections k.unit.now.header))) ≡ None)
       × (AddsUnit size k.big_endian c first k.places.now (unit_read c.sections k.unit.now.header) before after × IsLast c.functions size c.sections after.units.units.items behind)
-  unit-added made before after id last behind sized answers at olds news added placed known next =
+  unit-added made before after id last behind versioned sized answers at olds news added placed known next =
       let cloned = answered (Ok made) answers in
       let u = unit_read c.sections k.unit.now.header in
-      let is = made-of registers k compile table c m first number kept of size old new begun made sized carries refers cloned in (
-        accepted registers k compile table c m first number kept of size old new begun made sized carries refers cloned none,
+      let is = made-of registers k compile table c m first number kept of size old new begun made versioned sized carries refers cloned in (
+        accepted registers k compile table c m first number kept of size old new begun made versioned sized carries refers cloned none,
         (
           record {
             made = made;
@@ -86,7 +86,7 @@ module _ (registers : Registers) (k : CloneSource) (compile : Bool) (table : Opt
               (subst (λ s. IsLast c.functions size s (before.units.units.items ++ made ∷ []) behind) (unit-is k compile table (told_by registers k.module) c m first number kept of).sections
               (subst (λ fs. IsLast fs size k.unit.now.sections (before.units.units.items ++ made ∷ []) behind) (sym (of.module_is).functions)
               (subst (IsLast k.transform.now size k.unit.now.sections (before.units.units.items ++ made ∷ [])) (sym next)
-              (last-carried k.transform.now size k.unit.now.sections before.units.units.items made id k.unit.now.header table k.files last placed (cloned.size ∙ sized) known
+              (last-carried k.transform.now size k.unit.now.sections before.units.units.items made id k.unit.now.header table k.files last placed (cloned.version ∙ versioned) (cloned.size ∙ sized) known
               (subst (CarriesNamed k.transform.now k.unit.now.sections k.unit.now.header size table k.files) (sym cloned.lines) carries))))),
         ),
       )

@@ -15,7 +15,7 @@ use Rattle.dwc_rules.specs.Carried.{Module}
 use Rattle.dwc_dwarf.specs.ReadUnits.{Unit, root, line_offset, table_of_root, table_of_unit, segments_of}
 use Rattle.dwc_rules.specs.Refusals.{Refusal, table_offset, lines_refusal, unit_refusal}
 use Rattle.dwc_base.specs.Listing.{first_of}
-use Rattle.dwc_output.specs.Widest.{widest_table}
+use Rattle.dwc_output.specs.Widest.{widest_header, widest_table}
 use Rattle.dwc_rules.specs.Drafts.{Goal, Draft}
 use Rattle.dwc_rules.specs.DraftForests.{settled_unit}
 use Rattle.dwc_rules.specs.Clones.{UnitSource, entry_refusals}
@@ -43,6 +43,7 @@ use Rattle.dwc_source.specs.CompiledModules.{told_by}
 use Rattle.dwc_source.specs.Sources.{AreFiles}
 use Rattle.dwc_clone.specs.ClonedUnits.{picked, placed_in, depths_of, draft_depths, clone_refusals, clone_drafts, goal_number, AreNumbered, IsCloned, TellsFirst}
 use Rattle.dwc_extents.specs.CodeSources.{source_with, clone_rules}
+use Rattle.dwc_image.specs.CarriedLines.{CarriesTable}
 use Rattle.dwc_unit.specs.GivenLines.{GivenLines}
 use Rattle.dwc_unit.specs.GivenUnits.{GivenUnit, names_lines, in_file_order}
 use Rattle.dwc_unit.specs.GivenSegments.{given_segments}
@@ -112,13 +113,19 @@ begun-refused c fs told m first number places kept r of e met =
     reading-more (lines_refusal r.unit.sections r.unit.header r.line_table) (first_of (refusals_of c (unit_read c.sections r.unit.header))) e
     (λ x at. first-behind (option_to_list (unit_refusal c.sections (unit_read c.sections r.unit.header))) (kept_refusals (rules_of c) (kept_of c) (unit_read c.sections r.unit.header)) x (first-of_option (unit_refusal c.sections (unit_read c.sections r.unit.header)) x (sym same ∙ at))) met
 
+-- A program that carries a table is no longer than it at its widest.
+table-widest : (fs : List Function) (t : LineTable) (size : ℕ) (g : GivenLines) → CarriesTable t fs size g → widest_table_for 4 g.address_size g ≤ widest_table fs (Ok (Some t))
+table-widest fs t size g h =
+    let header : widest_header g.directories g.files ≡ widest_header t.header.directories t.files = ap₂ widest_header h.directories h.files in
+    subst (λ o. widest_table_for 4 o g ≤ widest_table fs (Ok (Some t))) (sym h.address_size) (omega (arith, header, h.widest))
+
 -- What is known of the line table of a carried unit, and of the program that carries it.
 record KnownTable (c : Module) (u : Unit) (lines : GivenLines) : Type 0 where
   t : Option LineTable
   is_read : table_of_unit c.sections u ≡ Ok t
   names : HasNamesOf t lines
   images : AllZip (IsImageOf c.functions) (filter (is_carried_segment c.functions) (segments_of t)) (given_segments lines)
-  widest : widest_table_for lines.address_size lines ≤ widest_table c.functions (Ok t)
+  widest : widest_table_for 4 lines.address_size lines ≤ widest_table c.functions (Ok t)
   ended : lines.begun ≡ None
   sized : is_some t ≡ is_some lines.address_size
   there : (e : Entry) → root u ≡ Some e → (is_some t && has_lines e.attributes) ≡ is_some t
@@ -164,7 +171,7 @@ module _ (registers : Registers) (k : CloneSource) (compile : Bool) (table : Opt
             is_read = read;
             names = carries.1;
             images = subst (λ g. AllZip (IsImageOf c.functions) [] (given_segments g)) (sym carries.1) tt;
-            widest = subst (λ (g : GivenLines). widest_table_for g.address_size g ≤ 0) (sym carries.1) (omega arith);
+            widest = subst (λ (g : GivenLines). widest_table_for 4 g.address_size g ≤ 0) (sym carries.1) (omega arith);
             ended = ap (λ (g : GivenLines). g.begun) carries.1;
             sized = sym (ap (λ (g : GivenLines). is_some g.address_size) carries.1);
             there = λ e at. refl;
@@ -179,7 +186,7 @@ module _ (registers : Registers) (k : CloneSource) (compile : Bool) (table : Opt
             is_read = read;
             names = record { size = size; sized = carries.carries.address_size; directories = carries.carries.directories; files = carries.carries.files };
             images = carries.carries.images;
-            widest = carries.carries.widest;
+            widest = table-widest c.functions t size lines carries.carries;
             ended = carries.carries.ended;
             sized = sym (ap is_some carries.carries.address_size);
             there = λ e at. offset-has e offset (sym (ap table_offset at) ∙ is);
@@ -240,7 +247,7 @@ module _ (registers : Registers) (k : CloneSource) (compile : Bool) (table : Opt
 
   -- ---- the unit
 
-  module _ (size : ℕ) (old new : List (List ℕ)) (begun made : GivenUnit) (sized : begun.address_size ≡ size) (carries : CarriesNamed k.transform.now k.unit.now.sections h size table k.files begun.lines)
+  module _ (size : ℕ) (old new : List (List ℕ)) (begun made : GivenUnit) (versioned : begun.version ≡ 4) (sized : begun.address_size ≡ size) (carries : CarriesNamed k.transform.now k.unit.now.sections h size table k.files begun.lines)
       (refers : ReferToSynthetic first c.told.memory k.vmctx_ptr k.wasm_ptr) (cloned : IsCloned registers k number (source_of (kept_of c) u) es old new begun made) where
     known : KnownTable c u begun.lines
     known = table-known size begun.lines carries
@@ -280,7 +287,7 @@ module _ (registers : Registers) (k : CloneSource) (compile : Bool) (table : Opt
         table_read = known.is_read;
         names = subst (HasNamesOf known.t) (sym cloned.lines) known.names;
         images = subst (λ g. AllZip (IsImageOf c.functions) (filter (is_carried_segment c.functions) (segments_of known.t)) (given_segments g)) (sym cloned.lines) known.images;
-        widest = subst (λ (g : GivenLines). widest_table_for g.address_size g ≤ widest_table c.functions (table_of_unit c.sections u)) (sym cloned.lines) (subst (λ t. widest_table_for begun.lines.address_size begun.lines ≤ widest_table c.functions t) (sym known.is_read) known.widest);
+        widest = subst (λ (g : GivenLines). widest_table_for 4 g.address_size g ≤ widest_table c.functions (table_of_unit c.sections u)) (sym cloned.lines) (subst (λ t. widest_table_for 4 begun.lines.address_size begun.lines ≤ widest_table c.functions t) (sym known.is_read) known.widest);
       };
       depths = draft_depths (clone_drafts registers k source es);
       order = cloned.order;
@@ -293,6 +300,7 @@ module _ (registers : Registers) (k : CloneSource) (compile : Bool) (table : Opt
       says = cloned.says ∙ ap (settled_unit goals) drafts-are;
       texts = cloned.texts;
       writable = record {
+        version = cloned.version ∙ versioned;
         size = cloned.size ∙ sized;
         ended = ap (λ (g : GivenLines). g.begun) cloned.lines ∙ known.ended;
         named = names;

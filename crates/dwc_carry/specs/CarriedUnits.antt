@@ -87,7 +87,7 @@ pub record CarriesUnit (size : ℕ) (big_endian : Bool) (c : Module) (first : �
   pub numbered : AreNumbered goals number (drafts_of big_endian (record { module_of = c; unit = u })) numbers made
   pub says : tree_meant table number depths made.additions ≡ settled_unit goals (drafts_of big_endian (record { module_of = c; unit = u }))
   pub texts : All (λ e. All (λ n. n < length table) (texts_of_attributes e.attributes)) made.additions
-  pub writable : IsWritable size (ordered made)
+  pub writable : IsWritable 4 size (ordered made)
 
 -- A unit is added that carries it, and the table of texts has grown.
 pub record AddsUnit (size : ℕ) (big_endian : Bool) (c : Module) (first : ℕ) (places : List EmittedEntry) (u : Unit) (old new : Dwarf) : Type 0 where

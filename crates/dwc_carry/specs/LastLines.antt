@@ -8,10 +8,10 @@ use Rattle.dwc_carry.specs.UnitPrograms.{CarriesTableAt}
 use Rattle.dwc_carry.specs.declared.last_lines.LastLines.{LastLines}
 use Rattle.dwc_source.specs.declared.files.UnitFiles.{UnitFiles}
 
--- The line program of its unit among those of the output, all of one address size, carries the table at its offset.
+-- The line program of its unit among those of the output, all of version 4 and of one address size, carries the table at its offset.
 pub record IsCarriedIn (fs : List Function) (size : ℕ) (s : Sections) (us : List GivenUnit) (last : LastLines) : Type 0 where
   pub within : last.unit.index < length us
-  pub carries : (u : GivenUnit) → u ≡ slice_index_or us last.unit.index u → (u.address_size ≡ size) × CarriesTableAt fs s last.address_size last.base size last.offset last.files u.lines
+  pub carries : (u : GivenUnit) → u ≡ slice_index_or us last.unit.index u → (u.version ≡ 4) × ((u.address_size ≡ size) × CarriesTableAt fs s last.address_size last.base size last.offset last.files u.lines)
 
 -- The same of the table that was carried last, where there is one.
 abbrev pub IsLast : List Function → ℕ → Sections → List GivenUnit → Option LastLines → Type 0

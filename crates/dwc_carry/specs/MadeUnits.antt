@@ -39,14 +39,14 @@ pub record HasLinesOf (c : CarriedUnit) (u : GivenUnit) : Type 0 where
   pub table_read : table_of_unit c.module_of.sections c.unit ≡ Ok table
   pub names : HasNamesOf table u.lines
   pub images : AllZip (IsImageOf c.module_of.functions) (filter (is_carried_segment c.module_of.functions) (segments_of table)) (given_segments u.lines)
-  pub widest : widest_table_for u.lines.address_size u.lines ≤ widest_lines_of c
+  pub widest : widest_table_for 4 u.lines.address_size u.lines ≤ widest_lines_of c
 
 -- The line program of a unit to be written has, in order, a segment for each of some functions, each with the offset of its own file's
 -- code, over one file of a name, in the compilation directory, and is no longer, at its widest, than what is allowed for them.
 pub record HasSimulatedLines (name : List ℕ) (fs : List (ℕ × Function)) (u : GivenUnit) : Type 0 where
   pub names : HasNames [] (record { directory = 0; name = name } ∷ []) u.lines
   pub segments : AllZip (λ f segment. IsSimulated name f.0 f.1 segment) fs (given_segments u.lines)
-  pub widest : widest_table_for u.lines.address_size u.lines ≤ widest_simulated_lines name fs
+  pub widest : widest_table_for 4 u.lines.address_size u.lines ≤ widest_simulated_lines name fs
 
 -- the lines that a unit is to have; a synthetic one has no line program
 abbrev pub HasWantedLines : WantedUnit → GivenUnit → Type 0
@@ -68,7 +68,7 @@ pub record IsMadeOf (at : ℕ → ℕ → Option (ℕ × ℕ)) (size : ℕ) (tab
   pub leads : LeadsToEntries u
   pub says : map (renumbered_entry at) (tree_meant table number depths u.additions) ≡ wanted
   pub texts : All (λ e. All (λ n. n < length table) (texts_of_attributes e.attributes)) u.additions
-  pub writable : IsWritable size (ordered u)
+  pub writable : IsWritable 4 size (ordered u)
 
 -- Units, of which the first has a number, are made as they are wanted, one to one and in order, and are to say some trees.
 abbrev pub AreMadeOf : (ℕ → ℕ → Option (ℕ × ℕ)) → ℕ → List (List ℕ) → ℕ → List WantedUnit → List Tree → List GivenUnit → Type 0

@@ -40,9 +40,9 @@ simulated_root_addition t list =
     ∷ texted DW_AT_comp_dir t.directory
     ∷ record { name = DW_AT_ranges; value = write.RangeListRef list } ∷ [])
 
--- the unit with its root alone
-abbrev pub root_given : ℕ → GivenLines → RootTexts → RangeList → GivenUnit
-root_given size lines t list = record { address_size = size; lines = lines; places = Some 0 ∷ []; additions = simulated_root_addition t list ∷ [] }
+-- the unit of a version with its root alone
+abbrev pub root_given : ℕ → ℕ → GivenLines → RootTexts → RangeList → GivenUnit
+root_given version size lines t list = record { version = version; address_size = size; lines = lines; places = Some 0 ∷ []; additions = simulated_root_addition t list ∷ [] }
 
 -- ---- types
 

@@ -56,8 +56,9 @@ pub record HasModules (translated : ℕ → Bool) (number : ℕ) (pointers : Lis
 
 -- ---- what does not change while entries are added
 
--- A unit has an address size and a line program, and begins with a root.
+-- A unit is of version 4, has an address size and a line program, and begins with a root.
 pub record BeginsWith (size : ℕ) (lines : GivenLines) (root : Addition) (u : GivenUnit) : Type 0 where
+  pub version_is : u.version ≡ 4
   pub size_is : u.address_size ≡ size
   pub lines_are : u.lines ≡ lines
   pub others : List Addition

@@ -67,7 +67,7 @@ pub record IsSimulatedUnit (translated : ℕ → Bool) (size : ℕ) (path : List
   pub grows : Grows before after
   pub lines : HasSimulatedLines (path_name path) (simulated_in_files translated ms) u
   pub simulated : (number : ℕ) → IsSimulated number after (simulated_unit translated path number (map reference_meant refs) ms) u
-  pub writable : IsWritable size (ordered u)
+  pub writable : IsWritable 4 size (ordered u)
 
 -- It is made, or the first refusal of their variables is answered.
 abbrev pub GivesUnit : (ℕ → Bool) → ℕ → List ℕ → List Module → List DebugInfoRef → List (List ℕ) → List (List ℕ) → Result GivenUnit DebugError → Type 0

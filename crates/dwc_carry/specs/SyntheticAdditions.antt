@@ -72,4 +72,4 @@ synthetic_additions t m = root_addition t ∷ (first_additions t ++ (context_add
 
 -- The unit, which has no line program.
 abbrev pub synthetic_given : ℕ → SyntheticTexts → Memory → GivenUnit
-synthetic_given size t m = record { address_size = size; lines = no_lines None; places = places_from 0 (synthetic_additions t m); additions = synthetic_additions t m }
+synthetic_given size t m = record { version = 4; address_size = size; lines = no_lines None; places = places_from 0 (synthetic_additions t m); additions = synthetic_additions t m }

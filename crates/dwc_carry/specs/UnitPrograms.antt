@@ -32,7 +32,7 @@ CarriesNamed fs s h size (Some offset) files lines = CarriesTableAt fs s h.addre
 
 -- A new unit, with the line program that carries what a root names, and the files of that.
 abbrev pub IsBegun : List Function → Sections → UnitHeader → ℕ → Option ℕ → BegunUnit → Type 0
-IsBegun fs s h size offset b = CarriesNamed fs s h size offset b.files b.unit.lines × (b.unit ≡ new_unit size b.unit.lines)
+IsBegun fs s h size offset b = CarriesNamed fs s h size offset b.files b.unit.lines × (b.unit ≡ new_unit 4 size b.unit.lines)
 
 -- That unit, or the refusal of the line table.
 abbrev pub GivesBegun : List Function → Sections → UnitHeader → ℕ → Option ℕ → Result BegunUnit DebugError → Type 0

@@ -27,9 +27,9 @@ pub(crate) struct RootTexts {
 
 // Gives a root that stands alone its attributes.
 fn set_root(unit: &mut Unit, texts: &RootTexts, ranges: RangeList) -> Result<(), WriteError>
-    requires alone { unit.old ≡ new_unit unit.old.address_size unit.old.lines }
+    requires alone { unit.old ≡ new_unit unit.old.version unit.old.address_size unit.old.lines }
     requires fits { (size : ℕ) → FitsValue size DW_AT_ranges (RangeListRef ranges) }
-    ensures set { OnOk result (unit.new ≡ root_given unit.old.address_size unit.old.lines texts.now ranges) }
+    ensures set { OnOk result (unit.new ≡ root_given unit.old.version unit.old.address_size unit.old.lines texts.now ranges) }
     ensures memory { IsOkUnless result OutOfMemory }
 {
     let language = MadeValue::Constant {
@@ -65,7 +65,7 @@ pub(crate) fn root_unit(
     requires size { (encoding.address_size ≡ 4) ⊎ (encoding.address_size ≡ 8) }
     requires lines { lines.address_size ≡ Some encoding.address_size }
     requires fits { (size : ℕ) → FitsValue size DW_AT_ranges (RangeListRef ranges) }
-    ensures { OkUnlessMemory result (λ u. u ≡ root_given encoding.address_size lines texts.now ranges) }
+    ensures { OkUnlessMemory result (λ u. u ≡ root_given 4 encoding.address_size lines texts.now ranges) }
 {
     let mut unit = Unit::new(alloc, encoding, lines)?;
     set_root(&mut unit, texts, ranges)?;

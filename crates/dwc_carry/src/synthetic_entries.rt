@@ -225,7 +225,7 @@ fn add_last(unit: &mut Unit, texts: &SyntheticTexts, set: usize) -> Result<(), W
 
 // Gives the root its attributes.
 fn set_root(unit: &mut Unit, texts: &SyntheticTexts) -> Result<(), WriteError>
-    requires { unit.old ≡ new_unit unit.old.address_size unit.old.lines }
+    requires { unit.old ≡ new_unit unit.old.version unit.old.address_size unit.old.lines }
     ensures set { OnOk result (unit.new ≡ with_attributes 0 (root_attributes texts.now) unit.old) }
     ensures memory { IsOkUnless result OutOfMemory }
 {

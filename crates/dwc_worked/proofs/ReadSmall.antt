@@ -1,6 +1,6 @@
 -- An example: the output of the small module is, byte for byte, what its two units and its line table spell, so it is read as they say.
 -- On literals give `All` by `All-from_recursion P xs (.., (.., tt))`.
-use Rattle.std.proofs.Common.{◌≡◌, ℕ, ◌^◌, ◌<◌, ◌≤◌, refl, lit<, lit≤, List, [], ◌∷◌, Some, None, Ok, Bool, true, false, pos, get_or, inr}
+use Rattle.std.proofs.Common.{◌≡◌, ℕ, ◌^◌, ◌<◌, ◌≤◌, refl, lit<, lit≤, List, [], ◌∷◌, Some, None, Ok, Bool, true, false, pos, get_or, inl, inr}
 use Rattle.std.specs.Prelude.{map, codes}
 use Rattle.dwc_dwarf.specs.Entries.{Entry}
 use Rattle.dwc_dwarf.specs.Values.{line_reference}
@@ -10,7 +10,8 @@ use Rattle.dwc_unit.specs.SpelledLines.{read_segment, FitsName, FitsFile, FitsRo
 use Rattle.dwc_write.specs.SpelledSections.{PlacedTable, read_unit, WrittenUnit, tables_bytes, info_bytes, info_fields, read_units, WrittenTable, lines_bytes, lines_fields, FitsUnit, FitsTable, placed_tables, read_table}
 use Rattle.std.proofs.lemmas.List.Elements.{All-head, All-cons, All-nil, All-from_recursion}
 use Rattle.dwc_unit.proofs.ReadLines.{line-table-segments}
-use Rattle.dwc_write.proofs.ReadSections.{IsReadAt, unit-table-read, units-read, lines-read}
+use Rattle.dwc_write.proofs.ReadLineTables.{IsReadAt, lines-read, unit-table-read}
+use Rattle.dwc_write.proofs.ReadSections.{units-read}
 use Rattle.std.specs.List.{All, AllByRecursion}
 use Rattle.dwc_base.specs.declared.records.Endian.TheVariants.{Little}
 use Rattle.dwc_base.specs.declared.records.Address.TheVariants.{Symbol}
@@ -54,7 +55,7 @@ synthetic_table =
     ∷ record { code = 7; tag = 0x24; has_children = false; attributes = form_of 0x03 0x0E ∷ form_of 0x0B 0x0B ∷ form_of 0x3E 0x0B ∷ [] } ∷ []
 
 abbrev pub synthetic_written : WrittenUnit
-synthetic_written = record { table_offset = 0; table = synthetic_table; entries = synthetic_entries }
+synthetic_written = record { version = 4; table_offset = 0; table = synthetic_table; entries = synthetic_entries }
 
 -- ---- the carried unit
 
@@ -75,7 +76,7 @@ table_written =
     ∷ record { code = 3; tag = 0x34; has_children = false; attributes = form_of 0x03 0x0E ∷ form_of 0x49 0x10 ∷ form_of 0x02 0x17 ∷ [] } ∷ []
 
 abbrev pub unit_written : WrittenUnit
-unit_written = record { table_offset = 68; table = table_written; entries = root_written ∷ function_written ∷ context_written ∷ [] }
+unit_written = record { version = 4; table_offset = 68; table = table_written; entries = root_written ∷ function_written ∷ context_written ∷ [] }
 
 abbrev pub units_written : List WrittenUnit
 units_written = synthetic_written ∷ unit_written ∷ []
@@ -89,6 +90,9 @@ rows_written =
 
 abbrev pub lines_written : WrittenTable
 lines_written = record {
+  version = 4;
+  texts = [];
+  own = [];
   directories = [];
   files = record { directory = 0; name = codes "a.c" } ∷ [];
   sequences = record { start_address = Symbol 0 (pos 0); rows = rows_written; end_offset = 30 } ∷ [];
@@ -202,6 +206,7 @@ synthetic_table-fits =
 synthetic-fits : FitsUnit Little 8 synthetic_written
 unfolding uleb_bytes uleb_bytes_within
 synthetic-fits = record {
+  version = inl refl;
   offset = lit< tt;
   short = lit< tt;
   table = synthetic_table-fits;
@@ -211,7 +216,7 @@ synthetic-fits = record {
 
 unit-fits : FitsUnit Little 8 unit_written
 unfolding uleb_bytes uleb_bytes_within
-unit-fits = record { offset = lit< tt; short = lit< tt; table = table-fits; entries = entries-fit; tree = (refl, (lit< tt, lit≤ tt, (lit< tt, lit≤ tt, tt))) }
+unit-fits = record { version = inl refl; offset = lit< tt; short = lit< tt; table = table-fits; entries = entries-fit; tree = (refl, (lit< tt, lit≤ tt, (lit< tt, lit≤ tt, tt))) }
 
 -- So its units are read as they were given.
 pub small-units : units (output_sections Little output_small) ≡ record { items = read_units Little 8 0 units_written; fault = None }
@@ -222,7 +227,7 @@ small-units =
 
 row-fits : (offset line : ℕ) → offset < 2 ^ 32 → line < 2 ^ 32
     → FitsRow (record { offset = offset; file = 1; line = line; column = 0; is_stmt = true; basic_block = false; prologue_end = false; epilogue_begin = false; isa = 0; discriminator = 0 })
-row-fits offset line near low = record { offset = near; line = low; file = lit< tt; column = lit< tt; isa = lit< tt; discriminator = lit< tt }
+row-fits offset line near low = record { some_file = lit< tt; offset = near; line = low; file = lit< tt; column = lit< tt; isa = lit< tt; discriminator = lit< tt }
 
 sequences-fit : All (FitsSequence 8) lines_written.sequences
 sequences-fit = All-from_recursion (FitsSequence 8) lines_written.sequences (
@@ -241,12 +246,12 @@ files-fit = All-from_recursion FitsFile lines_written.files (record { name = rec
 
 lines-fit : FitsTable Little 8 lines_written
 unfolding uleb_bytes uleb_bytes_within sleb_bytes sleb_bytes_from_0
-lines-fit = record { directories = All-nil FitsName; files = files-fit; sequences = sequences-fit; short = lit< tt }
+lines-fit = inl (refl, record { directories = All-nil FitsName; files = files-fit; sequences = sequences-fit; short = lit< tt })
 
 -- and so is its line table, with its one segment
 pub small-lines : All (IsReadAt (output_sections Little output_small) 8) (placed_tables Little 8 0 (lines_written ∷ []))
 small-lines =
-    lines-read (output_sections Little output_small) 8 (lines_written ∷ []) (lit< tt) (lit< tt) (All-cons (FitsTable Little 8) lines_written [] lines-fit (All-nil (FitsTable Little 8))) line-bytes line-relocations
+    lines-read (output_sections Little output_small) 8 [] (lines_written ∷ []) (lit< tt) (lit< tt) (All-cons (FitsTable Little 8) lines_written [] lines-fit (All-nil (FitsTable Little 8))) refl (All-cons (λ (t : WrittenTable). t.texts ≡ []) lines_written [] refl (All-nil (λ (t : WrittenTable). t.texts ≡ []))) line-bytes line-relocations
 
 abbrev placed_written : PlacedTable
 placed_written = record { offset = 0; table = lines_written }

@@ -26,4 +26,4 @@ returns-clause-typed c =
     let size = c.args.encoding.address_size in
     let lines = c.in_ok-lines.ensures.lines ∙ ap (λ name. Rattle.dwc_image.specs.SimulatedSequences.simulated_program size name (map simulated_view c.args.functions.now)) c.path_name.ensures in
     unit-typed size c.args.path.now (map simulated_view c.args.functions.now) c.root_texts.new.strings c.type_texts.new.strings c.in_ok-texts.texts c.in_ok-types.types c.in_ok-ranges.ranges c.in_ok-unit.unit c.add_types.new.unit c.type_texts.ensures.grows
-    c.in_ok-texts.ensures.known c.in_ok-types.ensures.known c.in_ok-ranges.ensures (c.in_ok-unit.ensures ∙ ap (λ (g : GivenLines). root_given size g c.in_ok-texts.texts c.in_ok-ranges.ranges) lines) c.in_ok-add_types.ensures.added
+    c.in_ok-texts.ensures.known c.in_ok-types.ensures.known c.in_ok-ranges.ensures (c.in_ok-unit.ensures ∙ ap (λ (g : GivenLines). root_given 4 size g c.in_ok-texts.texts c.in_ok-ranges.ranges) lines) c.in_ok-add_types.ensures.added

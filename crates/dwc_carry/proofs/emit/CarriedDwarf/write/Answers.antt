@@ -1,7 +1,8 @@
-use Rattle.std.proofs.Common.{ap, ◌∙◌}
+use Rattle.std.proofs.Common.{ap, map, ◌∙◌}
 use Rattle.std.proofs.lemmas.Result.{err_from_is_err_and}
 use Rattle.dwc_base.specs.declared.records.Endian.TheVariants.{Little}
 use Rattle.dwc_output.specs.OutputForm.{are_of_output}
+use Rattle.dwc_unit.specs.GivenUnits.{ordered, version_of}
 use Rattle.dwc_carry.proofs.FramesRefused.{table-is}
 use Rattle.dwc_carry.proofs.OutputNameLaws.{written-of_output}
 use Rattle.dwc_carry.proofs.EmitLaws.{emits-sections, emits-large}
@@ -24,5 +25,5 @@ returns c = λ order size registers entry v is.
     (rw is.order_is at written.read) (rw is.order_is at written.trees) (rw is.order_is at written.texts_once)
     (rw is.order_is at written.form) written.refused written.expressions
     written.names (rw is.order_is at written.relocated) (rw is.order_is at written.frames) (rw is.order_is at written.sound) (rw is.order_is at written.spelled)
-    (ap (are_of_output 4) written.sections ∙ written-of_output self.order self.dwarf.strings self.dwarf.units.units.items self.frames)
+    (ap (are_of_output (version_of (map ordered self.dwarf.units.units.items))) written.sections ∙ written-of_output self.order self.dwarf.strings self.dwarf.units.units.items self.frames)
     c.translations_keep_scopes.ensures.keep c.translations_keep_scopes.ensures.made
