@@ -110,7 +110,7 @@ pub struct Tunables {
     pub page_align: u64,
     /// Whether traps that a program cannot cause are told too.
     pub internal_traps: bool,
-    /// The version of DWARF that is asked for: 4 or 5. Nothing reads it yet, and version 4 is written.
+    /// The version of DWARF that is written: 4 or 5.
     pub dwarf_version: u16,
 }
 
