@@ -31,13 +31,13 @@ plain : HasValue (codes "{\"target\":{\"arch\":\"pulley\"},\"names\":[\"a\",\"b\
 unfolding map_on_literals
 plain = refl
 
--- the byte order is little, pointers have 8 bytes and no register has a number where nothing is said
-target_defaults : target_in (map_of_bytes (1 ∷ []) (codes "{\"target\":{\"arch\":\"pulley\"},\"names\":[\"a\",\"b\"],\"modules\":[{\"functions\":[{\"symbol\":7,\"start\":22,\"end\":33,\"body_len\":30,\"map\":[[5,25]]}]}]}")) ≡ Some (record { architecture = Pulley; big_endian = false; pointer_bytes = 8; registers = finite.empty; common_entry = None })
+-- the byte order is little, pointers have 8 bytes, DWARF of version 4 is written and no register has a number where nothing is said
+target_defaults : target_in (map_of_bytes (1 ∷ []) (codes "{\"target\":{\"arch\":\"pulley\"},\"names\":[\"a\",\"b\"],\"modules\":[{\"functions\":[{\"symbol\":7,\"start\":22,\"end\":33,\"body_len\":30,\"map\":[[5,25]]}]}]}")) ≡ Some (record { architecture = Pulley; big_endian = false; pointer_bytes = 8; version = 4; registers = finite.empty; common_entry = None })
 unfolding map_on_literals
 target_defaults = refl
 
--- a target that tells both
-target_told : target_in (map_of_bytes (1 ∷ []) (codes "{\"target\":{\"arch\":\"aarch64\",\"big_endian\":true,\"pointer_bytes\":4},\"names\":[\"a\",\"b\"],\"modules\":[{\"functions\":[{\"symbol\":7,\"start\":22,\"end\":33,\"body_len\":30,\"map\":[[5,25]]}]}]}")) ≡ Some (record { architecture = Aarch64; big_endian = true; pointer_bytes = 4; registers = finite.empty; common_entry = None })
+-- a target that tells all three
+target_told : target_in (map_of_bytes (1 ∷ []) (codes "{\"target\":{\"arch\":\"aarch64\",\"big_endian\":true,\"pointer_bytes\":4,\"version\":5},\"names\":[\"a\",\"b\"],\"modules\":[{\"functions\":[{\"symbol\":7,\"start\":22,\"end\":33,\"body_len\":30,\"map\":[[5,25]]}]}]}")) ≡ Some (record { architecture = Aarch64; big_endian = true; pointer_bytes = 4; version = 5; registers = finite.empty; common_entry = None })
 unfolding map_on_literals
 target_told = refl
 
@@ -85,6 +85,37 @@ pointer_5 = refl
 pointer_null : HasValue (codes "{\"target\":{\"arch\":\"pulley\",\"pointer_bytes\":null},\"names\":[\"a\",\"b\"],\"modules\":[{\"functions\":[{\"symbol\":7,\"start\":22,\"end\":33,\"body_len\":30,\"map\":[[5,25]]}]}]}") false
 unfolding map_on_literals
 pointer_null = refl
+
+-- the version that is the default may be told too
+version_4 : target_in (map_of_bytes (1 ∷ []) (codes "{\"target\":{\"arch\":\"pulley\",\"version\":4},\"names\":[\"a\",\"b\"],\"modules\":[{\"functions\":[{\"symbol\":7,\"start\":22,\"end\":33,\"body_len\":30,\"map\":[[5,25]]}]}]}")) ≡ Some (record { architecture = Pulley; big_endian = false; pointer_bytes = 8; version = 4; registers = finite.empty; common_entry = None })
+unfolding map_on_literals
+version_4 = refl
+
+-- versions below and above the two
+version_3 : HasValue (codes "{\"target\":{\"arch\":\"pulley\",\"version\":3},\"names\":[\"a\",\"b\"],\"modules\":[{\"functions\":[{\"symbol\":7,\"start\":22,\"end\":33,\"body_len\":30,\"map\":[[5,25]]}]}]}") false
+unfolding map_on_literals
+version_3 = refl
+
+version_6 : HasValue (codes "{\"target\":{\"arch\":\"pulley\",\"version\":6},\"names\":[\"a\",\"b\"],\"modules\":[{\"functions\":[{\"symbol\":7,\"start\":22,\"end\":33,\"body_len\":30,\"map\":[[5,25]]}]}]}") false
+unfolding map_on_literals
+version_6 = refl
+
+-- null, a text, a float and a number below 0 are no versions
+version_null : HasValue (codes "{\"target\":{\"arch\":\"pulley\",\"version\":null},\"names\":[\"a\",\"b\"],\"modules\":[{\"functions\":[{\"symbol\":7,\"start\":22,\"end\":33,\"body_len\":30,\"map\":[[5,25]]}]}]}") false
+unfolding map_on_literals
+version_null = refl
+
+version_text : HasValue (codes "{\"target\":{\"arch\":\"pulley\",\"version\":\"5\"},\"names\":[\"a\",\"b\"],\"modules\":[{\"functions\":[{\"symbol\":7,\"start\":22,\"end\":33,\"body_len\":30,\"map\":[[5,25]]}]}]}") false
+unfolding map_on_literals
+version_text = refl
+
+version_float : HasValue (codes "{\"target\":{\"arch\":\"pulley\",\"version\":4.0},\"names\":[\"a\",\"b\"],\"modules\":[{\"functions\":[{\"symbol\":7,\"start\":22,\"end\":33,\"body_len\":30,\"map\":[[5,25]]}]}]}") false
+unfolding map_on_literals
+version_float = refl
+
+version_negative : HasValue (codes "{\"target\":{\"arch\":\"pulley\",\"version\":-4},\"names\":[\"a\",\"b\"],\"modules\":[{\"functions\":[{\"symbol\":7,\"start\":22,\"end\":33,\"body_len\":30,\"map\":[[5,25]]}]}]}") false
+unfolding map_on_literals
+version_negative = refl
 
 -- 1 is no truth value
 big_endian_1 : HasValue (codes "{\"target\":{\"arch\":\"pulley\",\"big_endian\":1},\"names\":[\"a\",\"b\"],\"modules\":[{\"functions\":[{\"symbol\":7,\"start\":22,\"end\":33,\"body_len\":30,\"map\":[[5,25]]}]}]}") false
@@ -181,6 +212,7 @@ cie_told : target_in (map_of_bytes (1 ∷ []) (codes "{\"target\":{\"arch\":\"pu
   architecture = Pulley;
   big_endian = false;
   pointer_bytes = 8;
+  version = 4;
   registers = finite.empty;
   common_entry = Some (record { code_factor = 1; data_factor = negsuc 7; return_register = 16; instructions = def_cfa 7 (pos 8) ∷ [] });
 })

@@ -10,7 +10,7 @@ use Rattle.serde_json.specs.Find.{get_member}
 use Rattle.dwc_native.specs.CallFrames.{CommonEntry, is_sound, is_sound_if}
 use Rattle.dwc_base.specs.Reading.{coded}
 use Rattle.dwc_map.specs.declared.map_file.MapFile.{MapFile as DeclaredMap}
-use Rattle.dwc_map.specs.MapFile.{Target, MapFile, architecture_of, pointer_bytes_of, register_numbers_of, target_of, MapModule, have_counts, is_countable, map_for, map_in, map_in_bytes, map_of_bytes, map_with, modules_of, IsMap, IsMapFor}
+use Rattle.dwc_map.specs.MapFile.{Target, MapFile, architecture_of, pointer_bytes_of, version_of, register_numbers_of, target_of, MapModule, have_counts, is_countable, map_for, map_in, map_in_bytes, map_of_bytes, map_with, modules_of, IsMap, IsMapFor}
 use Rattle.dwc_map.specs.MapValues.{◌>>=◌, only_if, number_below, value_or, with_default, required, list_of, pair_of, text_of, truth_of, members_of, u8_of, u32_of, i8_of, nullable}
 use Rattle.dwc_map.specs.MapFrames.{instruction_of, cie_of, cie_in}
 use Rattle.dwc_map.specs.MapViews.{map_file_view}
@@ -35,18 +35,25 @@ both : (a b : Bool) → (a && b) ≡ true → (a ≡ true) × (b ≡ true)
 both true b e = (refl, e)
 both false b e = absurd (cc)
 
--- a number in the table of sizes
-size_in : (four eight : Bool) (n : ℕ) → (if four then Some 4 else (if eight then Some 8 else None)) ≡ Some n → (n ≡ 4) ⊎ (n ≡ 8)
-size_in true eight n e = inl (sym (same_some 4 n e))
-size_in false true n e = inr (sym (same_some 8 n e))
-size_in false false n e = absurd (cc)
+-- a number in a table of two
+among : (a b : ℕ) (first second : Bool) (n : ℕ) → (if first then Some a else (if second then Some b else None)) ≡ Some n → (n ≡ a) ⊎ (n ≡ b)
+among a b true second n e = inl (sym (same_some a n e))
+among a b false true n e = inr (sym (same_some b n e))
+among a b false false n e = absurd (cc)
 
 size_of : (d : Data) (n : ℕ) → pointer_bytes_of d ≡ Some n → (n ≡ 4) ⊎ (n ≡ 8)
-size_of d n e = let found = bind-some (number_below 9 d) (λ k. coded ((4, 4) ∷ (8, 8) ∷ []) k) n e in size_in (4 == found.0) (8 == found.0) n found.2
+size_of d n e = let found = bind-some (number_below 9 d) (λ k. coded ((4, 4) ∷ (8, 8) ∷ []) k) n e in among 4 8 (4 == found.0) (8 == found.0) n found.2
 
 size_or : (o : Option Data) (n : ℕ) → value_or 8 pointer_bytes_of o ≡ Some n → (n ≡ 4) ⊎ (n ≡ 8)
 size_or None n e = inr (sym (same_some 8 n e))
 size_or (Some d) n e = size_of d n e
+
+four_or_five : (d : Data) (n : ℕ) → version_of d ≡ Some n → (n ≡ 4) ⊎ (n ≡ 5)
+four_or_five d n e = let found = bind-some (number_below 6 d) (λ k. coded ((4, 4) ∷ (5, 5) ∷ []) k) n e in among 4 5 (4 == found.0) (5 == found.0) n found.2
+
+version_or : (o : Option Data) (n : ℕ) → value_or 4 version_of o ≡ Some n → (n ≡ 4) ⊎ (n ≡ 5)
+version_or None n e = inl (sym (same_some 4 n e))
+version_or (Some d) n e = four_or_five d n e
 
 -- the size of an address of a target
 target-size : (d : Data) (t : Target) → target_of d ≡ Some t → (t.pointer_bytes ≡ 4) ⊎ (t.pointer_bytes ≡ 8)
@@ -56,11 +63,26 @@ target-size d t e =
     let architecture = bind-some (required (codes "arch") architecture_of ms.0) _ t ms.2 in
     let big_endian = bind-some (with_default (codes "big_endian") false truth_of ms.0) _ t architecture.2 in
     let pointer_bytes = bind-some (with_default (codes "pointer_bytes") 8 pointer_bytes_of ms.0) _ t big_endian.2 in
-    let registers = bind-some (with_default (codes "registers") finite.empty register_numbers_of ms.0) _ t pointer_bytes.2 in
+    let version = bind-some (with_default (codes "version") 4 version_of ms.0) _ t pointer_bytes.2 in
+    let registers = bind-some (with_default (codes "registers") finite.empty register_numbers_of ms.0) _ t version.2 in
     let common_entry = bind-some (cie_in ms.0) _ t registers.2 in
     let is : pointer_bytes.0 ≡ t.pointer_bytes = ap (λ (x : Target). x.pointer_bytes) (same_some _ t common_entry.2) in
     let size = size_or (get_member (codes "pointer_bytes") ms.0) pointer_bytes.0 pointer_bytes.1 in
     subst (λ n. (n ≡ 4) ⊎ (n ≡ 8)) is size
+
+-- the version of DWARF that is written for a target
+target-version : (d : Data) (t : Target) → target_of d ≡ Some t → (t.version ≡ 4) ⊎ (t.version ≡ 5)
+unfolding target_of
+target-version d t e =
+    let ms = bind-some (members_of d) _ t e in
+    let architecture = bind-some (required (codes "arch") architecture_of ms.0) _ t ms.2 in
+    let big_endian = bind-some (with_default (codes "big_endian") false truth_of ms.0) _ t architecture.2 in
+    let pointer_bytes = bind-some (with_default (codes "pointer_bytes") 8 pointer_bytes_of ms.0) _ t big_endian.2 in
+    let version = bind-some (with_default (codes "version") 4 version_of ms.0) _ t pointer_bytes.2 in
+    let registers = bind-some (with_default (codes "registers") finite.empty register_numbers_of ms.0) _ t version.2 in
+    let common_entry = bind-some (cie_in ms.0) _ t registers.2 in
+    let is : version.0 ≡ t.version = ap (λ (x : Target). x.version) (same_some _ t common_entry.2) in
+    subst (λ n. (n ≡ 4) ⊎ (n ≡ 5)) is (version_or (get_member (codes "version") ms.0) version.0 version.1)
 
 -- an entry that has a value can be written
 entry-sound : (d : Data) (c : CommonEntry) → cie_of d ≡ Some c → is_sound c ≡ true
@@ -99,7 +121,8 @@ target-sound d t e =
     let architecture = bind-some (required (codes "arch") architecture_of ms.0) _ t ms.2 in
     let big_endian = bind-some (with_default (codes "big_endian") false truth_of ms.0) _ t architecture.2 in
     let pointer_bytes = bind-some (with_default (codes "pointer_bytes") 8 pointer_bytes_of ms.0) _ t big_endian.2 in
-    let registers = bind-some (with_default (codes "registers") finite.empty register_numbers_of ms.0) _ t pointer_bytes.2 in
+    let version = bind-some (with_default (codes "version") 4 version_of ms.0) _ t pointer_bytes.2 in
+    let registers = bind-some (with_default (codes "registers") finite.empty register_numbers_of ms.0) _ t version.2 in
     let common_entry = bind-some (cie_in ms.0) _ t registers.2 in
     let is : common_entry.0 ≡ t.common_entry = ap (λ (x : Target). x.common_entry) (same_some _ t common_entry.2) in
     subst (λ c. is_sound_if c ≡ true) is (told-sound (get_member (codes "cie") ms.0) common_entry.0 common_entry.1)
@@ -147,7 +170,7 @@ members-kinds modules ms m e =
     let whole : MapFile = record { target = target.0; set_memory = (names.0).0; resolve_memory = (names.0).1; modules = modules; next_id = next_id.0 } in
     let value = bind-some (get_member (codes "target") ms) target_of target.0 target.1 in
     let texts = bind-some (get_member (codes "names") ms) (pair_of text_of text_of) names.0 names.1 in
-    subst IsMap (same_some whole m next_id.2) (record { pointer = target-size value.0 target.0 value.2; names = pair-plain texts.0 names.0 texts.2; sound = target-sound value.0 target.0 value.2 })
+    subst IsMap (same_some whole m next_id.2) (record { pointer = target-size value.0 target.0 value.2; version = target-version value.0 target.0 value.2; names = pair-plain texts.0 names.0 texts.2; sound = target-sound value.0 target.0 value.2 })
 
 value-kinds : (d : Data) (m : MapFile) → map_in d ≡ Some m → IsMap m
 unfolding map_in
@@ -174,7 +197,7 @@ one-fits : (defined : List ℕ) (m : MapFile) → IsMap m → map_for defined m 
 one-fits defined m is fits =
     let kept = only_if-some (have_counts defined m.modules && is_countable m.modules) m m fits in
     let tests = both (have_counts defined m.modules) (is_countable m.modules) kept.0 in
-    record { counts = tests.0; countable = tests.1; pointer = is.pointer; names = is.names; sound = is.sound }
+    record { counts = tests.0; countable = tests.1; pointer = is.pointer; version = is.version; names = is.names; sound = is.sound }
 
 module _ (defined : List ℕ) (told result : Option DeclaredMap) (chosen : option_map map_file_view result ≡ option_and_then (map_for defined) (option_map map_file_view told)) where
   pub map-of_bytes : (bytes : List ℕ) → option_map map_file_view told ≡ map_in_bytes bytes → option_map map_file_view result ≡ map_of_bytes defined bytes

@@ -19,11 +19,13 @@ use Rattle.dwc_map.specs.MapValues.{◌>>=◌, only_if, number_below, u16_of, u3
 use Rattle.dwc_map.specs.MapFrames.{cie_in, frame_in}
 use Rattle.dwc_isa.specs.ToldModules.{AreNames}
 
--- the target that the code was compiled for, with DWARF's numbers of its registers, and what its frames share
+-- the target that the code was compiled for, with the version of DWARF that is written for it, DWARF's numbers of its registers, and what
+-- its frames share
 pub record Target : Type 0 where
   pub architecture : Architecture
   pub big_endian : Bool
   pub pointer_bytes : ℕ
+  pub version : ℕ
   pub registers : Registers
   pub common_entry : Option CommonEntry
 
@@ -61,6 +63,10 @@ architecture_of d = text_of d >>= named_in architectures
 abbrev pub pointer_bytes_of : Data → Option ℕ
 pointer_bytes_of d = number_below 9 d >>= λ n. coded ((4, 4) ∷ (8, 8) ∷ []) n
 
+-- 4 or 5
+abbrev pub version_of : Data → Option ℕ
+version_of d = number_below 6 d >>= λ n. coded ((4, 4) ∷ (5, 5) ∷ []) n
+
 -- DWARF's numbers of registers
 unfoldable pub register_numbers_of : Data → Option Registers
 register_numbers_of d = table_of u16_of d
@@ -72,9 +78,10 @@ target_of d = do
   architecture ← required (codes "arch") architecture_of ms
   big_endian ← with_default (codes "big_endian") false truth_of ms
   pointer_bytes ← with_default (codes "pointer_bytes") 8 pointer_bytes_of ms
+  version ← with_default (codes "version") 4 version_of ms
   registers ← with_default (codes "registers") finite.empty register_numbers_of ms
   common_entry ← cie_in ms
-  Some (record { architecture = architecture; big_endian = big_endian; pointer_bytes = pointer_bytes; registers = registers; common_entry = common_entry })
+  Some (record { architecture = architecture; big_endian = big_endian; pointer_bytes = pointer_bytes; version = version; registers = registers; common_entry = common_entry })
 
 -- the kinds of places by their names
 abbrev pub places : List (List ℕ × (Data → Option Place))
@@ -220,10 +227,11 @@ map_for defined m = only_if (have_counts defined m.modules && is_countable m.mod
 unfoldable pub map_of_bytes : List ℕ → List ℕ → Option MapFile
 map_of_bytes defined bytes = option_and_then (map_for defined) (map_in_bytes bytes)
 
--- What is said of each map that is read: an address has 4 or 8 bytes; the names have no zero byte; and a common information entry can be
--- written.
+-- What is said of each map that is read: an address has 4 or 8 bytes; the version of DWARF is 4 or 5; the names have no zero byte; and a
+-- common information entry can be written.
 pub record IsMap (m : MapFile) : Type 0 where
   pub pointer : (m.target.pointer_bytes ≡ 4) ⊎ (m.target.pointer_bytes ≡ 8)
+  pub version : (m.target.version ≡ 4) ⊎ (m.target.version ≡ 5)
   pub names : AreNames m.set_memory m.resolve_memory
   pub sound : is_sound_if m.target.common_entry ≡ true
 
@@ -233,5 +241,6 @@ pub record IsMapFor (defined : List ℕ) (m : MapFile) : Type 0 where
   pub counts : have_counts defined m.modules ≡ true
   pub countable : is_countable m.modules ≡ true
   pub pointer : (m.target.pointer_bytes ≡ 4) ⊎ (m.target.pointer_bytes ≡ 8)
+  pub version : (m.target.version ≡ 4) ⊎ (m.target.version ≡ 5)
   pub names : AreNames m.set_memory m.resolve_memory
   pub sound : is_sound_if m.target.common_entry ≡ true

@@ -3,7 +3,7 @@ ghost use Rattle.std.specs.Prelude.{◌≡◌, ◌==◌, option_map, Some, IfSom
 ghost use Rattle.std.specs.List.{list_any};
 ghost use Rattle.serde_json.specs.View.{view, items_view, members_view};
 ghost use Rattle.serde_json.specs.Find.{get_member, as_array};
-ghost use Rattle.dwc_map.specs.MapFile.{pointer_bytes_of, architecture_of};
+ghost use Rattle.dwc_map.specs.MapFile.{pointer_bytes_of, version_of, architecture_of};
 ghost use Rattle.dwc_map.specs.MapViews.{IsPlace};
 ghost use Rattle.dwc_map.specs.MapValues.{u32_of, u16_of, u8_of, i8_of, i32_of, i64_of, source_of, nullable, text_of, members_of, pair_of, four_of};
 
@@ -141,6 +141,17 @@ pub(crate) fn pointer_bytes(value: &Value) -> Option<u8>
     match value.as_u64()? {
         4 => Some(4),
         8 => Some(8),
+        _ => None,
+    }
+}
+
+/// The version of DWARF that is written: 4 or 5.
+pub(crate) fn version(value: &Value) -> Option<u16>
+    ensures { result ≡ version_of (view value.now) }
+{
+    match value.as_u64()? {
+        4 => Some(4),
+        5 => Some(5),
         _ => None,
     }
 }

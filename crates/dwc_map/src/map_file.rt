@@ -8,7 +8,7 @@ ghost use Rattle.dwc_map.specs.MapViews.{target_with, target_view, names_view, m
 use crate::by_tokens::map_by_tokens;
 use crate::frames::read_cie;
 use crate::json_fields::{
-    architecture, items, member, members, pair, plain_text, pointer_bytes, whole_number,
+    architecture, items, member, members, pair, plain_text, pointer_bytes, version, whole_number,
 };
 use crate::module::read_modules;
 use crate::registers::read_registers;
@@ -30,6 +30,8 @@ pub struct Target {
     pub big_endian: bool,
     /// How many bytes an address has: 4 or 8.
     pub pointer_bytes: u8,
+    /// The version of DWARF that is written: 4 or 5.
+    pub version: u16,
     /// Its registers, each once, with DWARF's numbers of them.
     pub registers: Vec<(Reg, u16)>,
     /// What its frames share, if this is told; it can be written.
@@ -73,6 +75,7 @@ struct TargetFields<'v> {
     arch: Architecture,
     big_endian: bool,
     pointer_bytes: u8,
+    version: u16,
     registers: Option<&'v Value>,
     cie: Option<&'v Value>,
 }
@@ -91,10 +94,15 @@ fn target_fields(value: &Value) -> Option<TargetFields<'_>>
         Some(field) => pointer_bytes(field)?,
         None => 8,
     };
+    let version = match member(fields, "version") {
+        Some(field) => version(field)?,
+        None => 4,
+    };
     Some(TargetFields {
         arch,
         big_endian,
         pointer_bytes,
+        version,
         registers: member(fields, "registers"),
         cie: member(fields, "cie"),
     })
@@ -116,6 +124,7 @@ fn read_target(alloc: Global, value: &Value) -> Result<Option<Target>, AllocErro
         arch: fields.arch,
         big_endian: fields.big_endian,
         pointer_bytes: fields.pointer_bytes,
+        version: fields.version,
         registers,
         cie,
     }))
@@ -288,8 +297,8 @@ pub fn map_for(told: Option<MapFile>, modules: &[ModuleTranslation<'_>]) -> Opti
 /// as each of these defines. Unknown fields are passed over, and of two members of one name the later counts.
 ///
 /// A map that is answered has the modules and functions that are asked for, fewer than 2^32 each, addresses of 4 or 8 bytes,
-/// names and paths without a zero byte, and no common information entry that cannot be written. The begin and the end of a function are the
-/// same in its record and in its address map, and its frame is the only unwind record that it has.
+/// version 4 or 5 of DWARF, names and paths without a zero byte, and no common information entry that cannot be written. The begin and the
+/// end of a function are the same in its record and in its address map, and its frame is the only unwind record that it has.
 ///
 /// # Errors
 ///
