@@ -14,6 +14,7 @@ use Rattle.dwc_output.specs.Fields.{AreRelocated, IsRelocated}
 use Rattle.dwc_output.specs.FramesCarried.{FramesCarried, others_in}
 use Rattle.dwc_output.specs.FrameSections.{frame_section, frame_section_if}
 use Rattle.dwc_output.specs.OutputForm.{HasDistinctNames, HaveTargetForm}
+use Rattle.dwc_output.specs.OwnDirectories.{AreOfVersion5}
 use Rattle.dwc_base.specs.Outputs.{OutputSection, output_sections}
 use Rattle.dwc_base.specs.Sections.{Sections, section_text}
 use Rattle.dwc_dwarf.specs.TreeLaws.{HasTextsOnce}
@@ -117,3 +118,6 @@ texts-same order all xs same once = subst HasTextsOnce (sym same) once
 
 pub form-same : (order : Endian) (version size : ℕ) (all xs : List OutputSection) → output_sections order all ≡ output_sections order xs → HaveTargetForm version size (units (output_sections order xs)).items → HaveTargetForm version size (units (output_sections order all)).items
 form-same order version size all xs same form = let P : Sections → Type 0 = λ s. HaveTargetForm version size (units s).items in subst P (sym same) form
+
+pub of-5-same : (order : Endian) (version : ℕ) (all xs : List OutputSection) → output_sections order all ≡ output_sections order xs → AreOfVersion5 version (output_sections order xs) (units (output_sections order xs)).items → AreOfVersion5 version (output_sections order all) (units (output_sections order all)).items
+of-5-same order version all xs same are = let P : Sections → Type 0 = λ s. AreOfVersion5 version s (units s).items in subst P (sym same) are

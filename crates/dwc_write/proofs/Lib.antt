@@ -5,6 +5,7 @@ pub mod ReadAddresses
 pub mod ReadSections
 pub mod ReadLineTables
 pub mod UnitNameLaws
+pub mod OwnDirectoryLaws
 pub mod TableFits
 pub mod UnitTables
 pub mod ListLaws

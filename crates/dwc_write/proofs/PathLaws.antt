@@ -22,7 +22,8 @@ use Rattle.dwc_texts.proofs.TextSets.{known-text, new-place, new-use}
 use Rattle.dwc_unit.specs.TextTables.{IsText}
 use Rattle.dwc_write.specs.declared.line_names.LineNames.{LineNames}
 use Rattle.dwc_write.specs.PathTables.{with_paths, place_of_path, AreAmong}
-use Rattle.dwc_write.specs.PathViews.{places_of_paths, IsPathLayout, IsPathRefusal, BehindPath, UsesPaths}
+use Rattle.dwc_write.specs.PathViews.{places_of_paths, IsPathLayout, IsPathRefusal, UsesPaths}
+use Rattle.dwc_write.specs.TextViews.{BehindText}
 
 -- ---- one name
 
@@ -60,7 +61,7 @@ path-added l v name behind laid free texts offsets long is small =
     )
 
 -- One that is too long.
-pub path-refused : (e : WriteError) (l : LineNames) (name : List ℕ) → IsPathLayout l → None ≡ position (bytes_eq name) l.texts → BehindPath (Err e) l.length name → IsPathRefusal e (length (texts_ended (with_paths l.texts (name ∷ []))))
+pub path-refused : (e : WriteError) (l : LineNames) (name : List ℕ) → IsPathLayout l → None ≡ position (bytes_eq name) l.texts → BehindText (Err e) LineStr l.length name → IsPathRefusal e (length (texts_ended (with_paths l.texts (name ∷ []))))
 path-refused OutOfMemory l name laid free refused = absurd refused
 path-refused (InvalidFrameCodeOffset symbol) l name laid free refused = absurd refused
 path-refused (InvalidFrameDataOffset symbol) l name laid free refused = absurd refused

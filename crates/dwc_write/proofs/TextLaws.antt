@@ -127,7 +127,7 @@ module _ (texts : List (List ℕ)) where
       let free : is_some (place_of_text texts 0 l.used.items n) ≡ false = ap is_some (sym (laid.places n)) ∙ none in
       ap (λ ns. length (texts_bytes texts ns)) (sym (number-new l.used.items n free)) ∙ length-more l.used.items n ∙ ap (λ k. k + length (text_numbered texts n ++ 0 ∷ [])) (sym laid.long)
 
-  pub behind-refused : (e : WriteError) (place n : ℕ) (text : List ℕ) → BehindText (Err e) place text → place + length (text ++ 0 ∷ []) ≡ n → IsTextRefusal e n
+  pub behind-refused : (e : WriteError) (place n : ℕ) (text : List ℕ) → BehindText (Err e) Str place text → place + length (text ++ 0 ∷ []) ≡ n → IsTextRefusal e n
   behind-refused OutOfMemory place n text refused same = absurd refused
   behind-refused (InvalidFrameCodeOffset symbol) place n text refused same = absurd refused
   behind-refused (InvalidFrameDataOffset symbol) place n text refused same = absurd refused

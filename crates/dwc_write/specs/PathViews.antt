@@ -1,5 +1,5 @@
 -- Names of line tables of version 5 that are laid out, as a writer keeps them.
-use Rattle.std.specs.Prelude.{◌≡◌, ℕ, ◌+◌, ◌≤◌, List, [], ◌∷◌, ◌++◌, length, IsSomeAnd, Result, Ok, Err}
+use Rattle.std.specs.Prelude.{◌≡◌, ℕ, ◌+◌, ◌≤◌, List, [], ◌∷◌, ◌++◌, length, Result, Ok, Err}
 use Rattle.dwc_base.specs.declared.records.Endian.{Endian}
 use Rattle.dwc_base.specs.declared.section_name.SectionName.TheVariants.{LineStr}
 use Rattle.dwc_base.specs.NumberBytes.{number_bytes, uleb_bytes}
@@ -9,8 +9,7 @@ use Rattle.dwc_dwarf.specs.TreeLaws.{texts_ended}
 use Rattle.dwc_output.specs.Versions.{files_written}
 use Rattle.dwc_section.specs.Spelled.{sized_bytes}
 use Rattle.dwc_section.specs.declared.error.WriteError.{WriteError}
-use Rattle.dwc_section.specs.declared.error.WriteError.TheVariants.{TooLarge}
-use Rattle.dwc_section.specs.Writers.{IsPast, IsSizeRefusal, most_bytes, section_of}
+use Rattle.dwc_section.specs.Writers.{IsPast, IsSizeRefusal, most_bytes}
 use Rattle.dwc_write.specs.declared.line_names.LineNames.{LineNames}
 use Rattle.dwc_write.specs.PathTables.{with_paths, directory_formats, file_formats, path_directories_bytes, path_directories_relocations, path_files_relocations}
 
@@ -28,12 +27,6 @@ pub record IsPathLayout (l : LineNames) : Type 0 where
 -- A refusal of names that are so long, or want of memory.
 abbrev pub IsPathRefusal : WriteError → ℕ → Type 0
 IsPathRefusal e size = IsSizeRefusal (IsPast LineStr size) e
-
--- A place is passed on by a name and its zero, or is refused as it would be past the most that `.debug_line_str` holds.
-abbrev pub BehindPath : Result ℕ WriteError → ℕ → List ℕ → Type 0
-BehindPath (Ok behind) place name = (behind ≡ place + length (name ++ (0 ∷ []))) × (behind ≤ most_bytes)
-BehindPath (Err (TooLarge what)) place name = IsSomeAnd (section_of what) (IsPast LineStr (place + length (name ++ (0 ∷ []))))
-BehindPath (Err _) place name = ⊥
 
 -- Names are used behind those that are, or are too long.
 abbrev pub UsesPaths : LineNames → LineNames → Result (Unit {0}) WriteError → List (List ℕ) → Type 0

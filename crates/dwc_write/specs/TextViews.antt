@@ -1,6 +1,7 @@
 -- Texts that are laid out, as a writer keeps them.
 use Rattle.std.specs.Prelude.{◌≡◌, ℕ, ◌+◌, ◌<◌, ◌≤◌, List, [], ◌∷◌, ◌++◌, length, IsSomeAnd, Result, Ok, Err}
 use Rattle.std.specs.List.{All}
+use Rattle.dwc_base.specs.declared.section_name.SectionName.{SectionName}
 use Rattle.dwc_base.specs.declared.section_name.SectionName.TheVariants.{Str}
 use Rattle.dwc_section.specs.declared.error.WriteError.{WriteError}
 use Rattle.dwc_section.specs.declared.error.WriteError.TheVariants.{TooLarge}
@@ -21,11 +22,11 @@ pub record IsTextLayout (texts : List (List ℕ)) (l : TextLayout) : Type 0 wher
 abbrev pub IsTextRefusal : WriteError → ℕ → Type 0
 IsTextRefusal e size = IsSizeRefusal (IsPast Str size) e
 
--- A place is passed on by a text and its zero, or is refused as it would be past the most that `.debug_str` holds.
-abbrev pub BehindText : Result ℕ WriteError → ℕ → List ℕ → Type 0
-BehindText (Ok behind) place text = (behind ≡ place + length (text ++ (0 ∷ []))) × (behind ≤ most_bytes)
-BehindText (Err (TooLarge what)) place text = IsSomeAnd (section_of what) (IsPast Str (place + length (text ++ (0 ∷ []))))
-BehindText (Err _) place text = ⊥
+-- A place in a section is passed on by a text and its zero, or is refused as it would be past the most that the section holds.
+abbrev pub BehindText : Result ℕ WriteError → SectionName → ℕ → List ℕ → Type 0
+BehindText (Ok behind) name place text = (behind ≡ place + length (text ++ (0 ∷ []))) × (behind ≤ most_bytes)
+BehindText (Err (TooLarge what)) name place text = IsSomeAnd (section_of what) (IsPast name (place + length (text ++ (0 ∷ []))))
+BehindText (Err _) name place text = ⊥
 
 -- Texts of some numbers are used behind those that are, or are too long.
 abbrev pub UsesTexts : List (List ℕ) → TextLayout → TextLayout → Result (Unit {0}) WriteError → List ℕ → Type 0

@@ -9,11 +9,10 @@ ghost use Rattle.dwc_section.specs.Writers.{Writes, most_bytes};
 ghost use Rattle.dwc_dwarf.specs.TreeLaws.{texts_ended};
 ghost use Rattle.dwc_output.specs.NewWidest.{names_in};
 ghost use Rattle.dwc_write.specs.PathTables.{place_of_path};
-ghost use Rattle.dwc_write.specs.PathViews.{BehindPath, IsPathLayout, UsesPaths};
+ghost use Rattle.dwc_write.specs.PathViews.{IsPathLayout, UsesPaths};
 
-use crate::text_layout::put_text;
-use dwc_base::{Endian, Limit, SectionName};
-use dwc_section::writer::MOST_BYTES;
+use crate::text_layout::{behind_text, put_text};
+use dwc_base::{Endian, SectionName};
 use dwc_section::{WriteError, WriterRelocate};
 use dwc_texts::{Text, Texts};
 use dwc_unit::names::{Files, Names};
@@ -97,24 +96,11 @@ fn add_name(names: &mut LineNames, name: &[u8]) -> Result<(), WriteError>
     requires free { None ≡ position (bytes_eq name.now) names.old.texts }
     ensures { UsesPaths names.old names.new result (name.now ∷ []) }
 {
-    let behind = behind_name(names.length, name)?;
+    let behind = behind_text(SectionName::LineStr, names.length, name)?;
     names.texts.add(name)?;
     names.offsets.push(names.length)?;
     names.length = behind;
     Ok(())
-}
-
-// The place behind a name and its zero, in `.debug_line_str`.
-fn behind_name(place: usize, name: &[u8]) -> Result<usize, WriteError>
-    requires { place ≤ most_bytes }
-    ensures { BehindPath result place name.now }
-{
-    if name.len() >= MOST_BYTES - place {
-        return Err(WriteError::TooLarge {
-            what: Limit::Section(SectionName::LineStr),
-        });
-    }
-    Ok(place + name.len() + 1)
 }
 
 /// Where a name stands in `.debug_line_str`.

@@ -7,6 +7,7 @@ ghost use Rattle.dwc_native.specs.CallFrames.{is_sound_if};
 ghost use Rattle.dwc_output.specs.Fields.{AreRelocated, IsRelocated};
 ghost use Rattle.dwc_output.specs.FramesCarried.{FramesCarried, others_in};
 ghost use Rattle.dwc_output.specs.OutputForm.{HasDistinctNames, HaveTargetForm};
+ghost use Rattle.dwc_output.specs.OwnDirectories.{AreOfVersion5};
 ghost use Rattle.dwc_base.specs.Outputs.{output_sections, section_view};
 ghost use Rattle.dwc_dwarf.specs.TreeLaws.{HasTextsOnce};
 ghost use Rattle.dwc_base.specs.declared.faults.Limit.TheVariants.{Expression};
@@ -68,7 +69,8 @@ pub(crate) struct Sections {
 /// The sections `.debug_abbrev`, `.debug_info`, `.debug_line`, `.debug_ranges`, `.debug_loc` and `.debug_str` of some units of version 4, or
 /// `.debug_abbrev`, `.debug_info`, `.debug_line`, `.debug_line_str`, `.debug_rnglists`, `.debug_loclists` and `.debug_str` of some of version 5,
 /// in this order, and `.debug_frame` of a frame table behind them; those that are empty are left out. All units have one version. Each text
-/// that an entry names stands once, in the order of first use, and no other, and so does each name in a line table of version 5.
+/// that an entry names stands once, in the order of first use, and no other, and so does each name in a line table of version 5. Directory 0
+/// of such a table is the compilation directory of its unit.
 ///
 /// # Errors
 /// `InvalidFrameCodeOffset` and `InvalidFrameDataOffset` are answered exactly for the first frame description that cannot be written,
@@ -93,6 +95,7 @@ pub fn write_sections(
     ensures trees { IfOk result (λ s. CarriesTrees order (given_trees dwarf.strings (map ordered dwarf.units.units.items)) (map section_view s.items)) }
     ensures texts_once { IfOk result (λ s. HasTextsOnce (output_sections order (map section_view s.items))) }
     ensures form { IfOk result (λ s. (version size : ℕ) → All (λ u. u.version ≡ version) dwarf.units.units.items → All (λ u. u.address_size ≡ size) dwarf.units.units.items → HaveTargetForm version size (units (output_sections order (map section_view s.items))).items) }
+    ensures of_5 { IfOk result (λ s. (version : ℕ) → All (λ u. u.version ≡ version) dwarf.units.units.items → AreOfVersion5 version (output_sections order (map section_view s.items)) (units (output_sections order (map section_view s.items))).items) }
     ensures names { IfOk result (λ s. HasDistinctNames (map section_view s.items)) }
     ensures relocated { IfOk result (λ s. All (IsRelocated (output_sections order (map section_view s.items))) (others_in (map section_view s.items))) }
     ensures frames { IfOk result (λ s. FramesCarried order (size_of (map ordered dwarf.units.units.items)) (common_given frames) (descriptions_given frames) (map section_view s.items)) }
@@ -144,6 +147,7 @@ fn write_unit_sections(
     ensures trees { IfOk result (λ s. CarriesTrees order (given_trees dwarf.strings (map ordered dwarf.units.units.items)) (map section_view s.items)) }
     ensures texts_once { IfOk result (λ s. HasTextsOnce (output_sections order (map section_view s.items))) }
     ensures form { IfOk result (λ s. (version size : ℕ) → All (λ u. u.version ≡ version) dwarf.units.units.items → All (λ u. u.address_size ≡ size) dwarf.units.units.items → HaveTargetForm version size (units (output_sections order (map section_view s.items))).items) }
+    ensures of_5 { IfOk result (λ s. (version : ℕ) → All (λ u. u.version ≡ version) dwarf.units.units.items → AreOfVersion5 version (output_sections order (map section_view s.items)) (units (output_sections order (map section_view s.items))).items) }
     ensures names { IfOk result (λ s. HasDistinctNames (map section_view s.items)) }
     ensures relocated { IfOk result (λ s. AreRelocated order (map section_view s.items)) }
     ensures expressions { (result ≡ Err (TooLarge Expression)) ↔ (are_short_in (version_of (map ordered dwarf.units.units.items)) (given_trees dwarf.strings (map ordered dwarf.units.units.items)) ≡ false) }

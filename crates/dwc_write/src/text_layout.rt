@@ -71,21 +71,25 @@ fn use_text(layout: &mut TextLayout, texts: &[Text], index: usize) -> Result<(),
     if layout.offsets[index].is_some() {
         return Ok(());
     }
-    let behind = behind_text(layout.length, texts[index].as_bytes())?;
+    let behind = behind_text(SectionName::Str, layout.length, texts[index].as_bytes())?;
     layout.used.push(index)?;
     layout.offsets[index] = Some(layout.length);
     layout.length = behind;
     Ok(())
 }
 
-// The place behind a text and its zero, in `.debug_str`.
-fn behind_text(place: usize, text: &[u8]) -> Result<usize, WriteError>
+// The place behind a text and its zero, in a section of texts.
+pub(crate) fn behind_text(
+    section: SectionName,
+    place: usize,
+    text: &[u8],
+) -> Result<usize, WriteError>
     requires { place ≤ most_bytes }
-    ensures { BehindText result place text.now }
+    ensures { BehindText result section place text.now }
 {
     if text.len() >= MOST_BYTES - place {
         return Err(WriteError::TooLarge {
-            what: Limit::Section(SectionName::Str),
+            what: Limit::Section(section),
         });
     }
     Ok(place + text.len() + 1)

@@ -11,7 +11,7 @@ use Rattle.dwc_unit.specs.GivenTrees.{given_trees}
 use Rattle.dwc_unit.specs.GivenUnits.{ordered, size_of}
 use Rattle.dwc_section.specs.RisingRelocations.{DoRelocationsRise}
 use Rattle.dwc_section.specs.Writers.{IsSound}
-use Rattle.dwc_write.proofs.FramesBehind.{back-same, distinct-with, form-same, frames-carried, others-with, read-same, relocated-with, texts-same, trees-same}
+use Rattle.dwc_write.proofs.FramesBehind.{back-same, distinct-with, form-same, frames-carried, of-5-same, others-with, read-same, relocated-with, texts-same, trees-same}
 use Rattle.dwc_write.proofs.OutputForms.{IsOther, all-others}
 use Rattle.dwc_write.proofs.sections.write_sections.Goals as goal
 
@@ -84,6 +84,17 @@ returns-clause-form c =
     let whole : all ≡ xs ++ frame_section_if c.args.order size common ds = c.in_ok-push_optional.ensures.section ∙ ap (λ fs. xs ++ fs) c.in_ok-section.ensures.sections in
     let same : output_sections c.args.order all ≡ output_sections c.args.order xs = ap (output_sections c.args.order) whole ∙ read-same c.args.order c.args.order size common ds xs in
     λ version wanted versions sized. form-same c.args.order version wanted all xs same (c.in_ok-sections.ensures.form version wanted versions sized)
+
+pub returns-clause-of_5 : goal.returns-clause-of_5
+returns-clause-of_5 c =
+    let xs = map section_view c.in_ok-sections.sections.items in
+    let all = map section_view c.push_optional.new.list.items in
+    let size = c.address_size_of-size.result in
+    let common = common_given c.args.frames in
+    let ds = descriptions_given c.args.frames in
+    let whole : all ≡ xs ++ frame_section_if c.args.order size common ds = c.in_ok-push_optional.ensures.section ∙ ap (λ fs. xs ++ fs) c.in_ok-section.ensures.sections in
+    let same : output_sections c.args.order all ≡ output_sections c.args.order xs = ap (output_sections c.args.order) whole ∙ read-same c.args.order c.args.order size common ds xs in
+    λ version versions. of-5-same c.args.order version all xs same (c.in_ok-sections.ensures.of_5 version versions)
 
 pub returns-clause-names : goal.returns-clause-names
 returns-clause-names c =

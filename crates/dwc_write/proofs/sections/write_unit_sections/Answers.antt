@@ -4,6 +4,8 @@ use Rattle.std.proofs.lemmas.List.Elements.{All-map}
 use Rattle.std.proofs.lemmas.Result.{IfErr-at_err, IfErr-weaker, IfOk-at_ok, err_from_is_err_and}
 use Rattle.dwc_output.specs.Fields.{AreRelocated}
 use Rattle.dwc_output.specs.OutputForm.{HasDistinctNames}
+use Rattle.dwc_output.specs.OwnDirectories.{AreOfVersion5}
+use Rattle.dwc_dwarf.specs.ReadUnits.{units}
 use Rattle.dwc_base.specs.Outputs.{OutputSection, output_sections, section_view}
 use Rattle.dwc_dwarf.specs.TreeLaws.{HasTextsOnce, texts_ended}
 use Rattle.dwc_output.specs.Versions.{are_short_in}
@@ -34,6 +36,7 @@ use Rattle.dwc_write.proofs.WideLaws.{err-exit, names-widely}
 use Rattle.dwc_section.proofs.RefusalLaws.{memory-refusal, none-for-expressions, past-among, size-refusal}
 use Rattle.dwc_write.proofs.OutputLaws.{all-appended, refusal-of-all, if-ok-both, if-ok-weaker, output-sections, sections-rise}
 use Rattle.dwc_write.proofs.OutputForms.{distinct-names}
+use Rattle.dwc_write.proofs.OwnDirectoryLaws.{of-version-5}
 use Rattle.dwc_write.proofs.ReadBackLaws.{reads-back}
 use Rattle.dwc_write.proofs.ReadTrees.{carries-trees, target-form}
 use Rattle.dwc_write.proofs.RelatedLaws.{are-relocated}
@@ -295,6 +298,20 @@ returns-clause-form c =
     if-ok-weaker c.gather.result _ _
     (λ s back version size versions sized. target-form c.args.order (map ordered us) (map section_view s.items) version size (All-map (λ (u : OrderedUnit). u.address_size ≡ size) ordered us sized) (All-map (λ (u : OrderedUnit). u.version ≡ version) ordered us versions) back)
     (returns-clause-read c)
+
+pub returns-clause-of_5 : goal.returns-clause-of_5
+returns-clause-of_5 c =
+    let given = c.args.dwarf.units.units.items in
+    let us = map ordered given in
+    let table = c.args.dwarf.strings in
+    let fits = c.in_ok-sections.ensures.fits in
+    let lines = c.in_ok-sections.ensures.lines in
+    let Q : List OutputSection → Type 0 = λ ss. All (IsSound c.args.order) ss in
+    let texts : AreTexts table = c.know_texts.ensures in
+    let P : ℕ → List OutputSection → Type 0 = λ version ss. AreOfVersion5 version (output_sections c.args.order ss) (units (output_sections c.args.order ss)).items in
+    if-ok-both c.gather.result _ _ _
+    (λ s is sound version versions. subst (P version) (sym is) (of-version-5 c.args.order table us version c.requires.units c.requires.texts texts fits lines (subst Q is sound) (All-map (λ (u : OrderedUnit). u.version ≡ version) ordered given versions)))
+    (returns-clause-sections c) (returns-clause-sound c)
 
 pub returns-clause-names : goal.returns-clause-names
 returns-clause-names c =
