@@ -31,9 +31,9 @@ found-placed unit h [] = refl
 found-placed unit h (e ∷ es) = ap (cons_option (h e)) (found-placed unit h es)
 
 -- The functions that the cloned entries of a unit begin in are those of the carried unit.
-pub unit-begun : (fs : List Function) (told : ToldModule) (c : Module) (m : KeptModule) (first number : ℕ) (places : List EmittedEntry) (kept : List ℕ) (r : ReadUnit) → IsUnitOf c fs told m first number places kept r
+pub unit-begun : {version : ℕ} (fs : List Function) (told : ToldModule) (c : Module) (m : KeptModule) (first number : ℕ) (places : List EmittedEntry) (kept : List ℕ) (r : ReadUnit) → IsUnitOf version c fs told m first number places kept r
     → filter_map (begun_function (list_source r.unit.sections r.unit.header) fs) (picked kept (entries r.unit.sections r.unit.header).items) ≡ begun_functions (record { module_of = c; unit = unit_read c.sections r.unit.header })
-unit-begun fs told c m first number places kept r of =
+unit-begun {version} fs told c m first number places kept r of =
     let h = r.unit.header in
     let es = picked kept (entries r.unit.sections h).items in
     let is = (of.module_is).is in
@@ -61,5 +61,5 @@ module _ (c : Module) (m : KeptModule) where
       (subst (λ rs. AreNotedSoFar (flat_map begun_functions (map (λ (u : Unit). record { module_of = c; unit = u }) (map (λ (r : ReadUnit). unit_read c.sections r.unit.header) rs))) all now) (left-some m.kept r rest some) h)
 
   -- those of all units are those of the module
-  pub begun-all : (fs : List Function) (told : ToldModule) → IsOfModule c fs told m → begun_in_module c ≡ begun_left m.units.items
-  begun-all fs told of = ap (λ us. flat_map begun_functions (map (λ (u : Unit). record { module_of = c; unit = u }) us)) (carried-read c m of.is)
+  pub begun-all : {version : ℕ} (fs : List Function) (told : ToldModule) → IsOfModule version c fs told m → begun_in_module c ≡ begun_left m.units.items
+  begun-all {version} fs told of = ap (λ us. flat_map begun_functions (map (λ (u : Unit). record { module_of = c; unit = u }) us)) (carried-read c m of.is)

@@ -4,6 +4,7 @@ use Rattle.std.specs.Prelude.{◌==◌, if◌then◌else◌}
 use Rattle.std.specs.List.{AllZip}
 use Rattle.std.proofs.lemmas.Bool.{ne_eqb}
 use Rattle.std.proofs.lemmas.List.{append_assoc}
+use Rattle.dwc_base.specs.declared.records.Encoding.{Encoding}
 use Rattle.dwc_rules.specs.Carried.{Module, carried_unit}
 use Rattle.dwc_dwarf.specs.ReadUnits.{Unit}
 use Rattle.dwc_rules.specs.Drafts.{itself, pointer_to_wrapper, reference_to_target, pointer_to_target, Goal, made_of, synthetic_entry, Draft}
@@ -33,12 +34,12 @@ use Rattle.dwc_carry.specs.CarriedUnits.{CarriesUnit, CarryUnits, wanted_of}
 use Rattle.dwc_carry.proofs.PlaceLaws.{lists-among}
 use Rattle.dwc_carry.proofs.UnitsInOrder.{emitted-carried}
 
-module _ (c : Module) (m : KeptModule) (is : IsKeptModule c.functions c.sections m) (size : ℕ) (big_endian : Bool) (first : ℕ) (places : List EmittedEntry) (places_are : places ≡ numbered_lists (suc first) (emitted m.kept m.units.items)) (table : List (List ℕ)) where
+module _ (c : Module) (m : KeptModule) (is : IsKeptModule c.functions c.sections m) (encoding : Encoding) (big_endian : Bool) (first : ℕ) (places : List EmittedEntry) (places_are : places ≡ numbered_lists (suc first) (emitted m.kept m.units.items)) (table : List (List ℕ)) where
   abbrev Carries : ℕ → Unit → GivenUnit → Type 0
-  Carries number u g = CarriesUnit size big_endian c first places table number u g
+  Carries number u g = CarriesUnit encoding big_endian c first places table number u g
 
   abbrev Carry : ℕ → List Unit → List GivenUnit → Type 0
-  Carry number us gs = CarryUnits size big_endian c first places table number us gs
+  Carry number us gs = CarryUnits encoding big_endian c first places table number us gs
 
   -- ---- the numbers of goals, by the unit that says them
 
@@ -141,7 +142,7 @@ module _ (c : Module) (m : KeptModule) (is : IsKeptModule c.functions c.sections
       }
 
       one-made : (front more : List ReadUnit) (r : ReadUnit) (g : GivenUnit) → carried m ≡ front ++ r ∷ more → (number : ℕ) → number ≡ suc first + length front → (k : Carries number (of_read r) g) → goals number ≡ k.goals
-          → IsMadeOf at size table number (carried_unit (record { module_of = c; unit = of_read r })) (wanted_of big_endian c first (of_read r)) g
+          → IsMadeOf at encoding table number (carried_unit (record { module_of = c; unit = of_read r })) (wanted_of big_endian c first (of_read r)) g
       one-made front more r g are number counted k same =
           let target = place_of_goal first (module_drafts big_endian c) in
           let have = subst (λ n. GoalsHave (IsPutAt at (goals n) target) c.told.memory (kept_in (kept_of c) (of_read r))) (sym counted) (goals-put c m is big_endian first at goals numbered front more r are) in
@@ -157,7 +158,7 @@ module _ (c : Module) (m : KeptModule) (is : IsKeptModule c.functions c.sections
           }
 
       all-made : (front rest : List ReadUnit) (gs : List GivenUnit) → carried m ≡ front ++ rest → (number : ℕ) → number ≡ suc first + length front → (k : Carry number (map of_read rest) gs) → Agree goals number (map of_read rest) gs k
-          → AreMadeOf at size table number (map carried_unit (map (λ u. record { module_of = c; unit = u }) (map of_read rest))) (map (wanted_of big_endian c first) (map of_read rest)) gs
+          → AreMadeOf at encoding table number (map carried_unit (map (λ u. record { module_of = c; unit = u }) (map of_read rest))) (map (wanted_of big_endian c first) (map of_read rest)) gs
       all-made front [] [] are number counted k agree = tt
       all-made front [] (g ∷ gs) are number counted k agree = absurd k
       all-made front (r ∷ rest) [] are number counted k agree = absurd k
@@ -167,5 +168,5 @@ module _ (c : Module) (m : KeptModule) (is : IsKeptModule c.functions c.sections
       )
 
       -- All of them are made as they are wanted.
-      pub carried-made : AreMadeOf at size table (suc first) (map carried_unit (map (λ u. record { module_of = c; unit = u }) (map of_read (carried m)))) (map (wanted_of big_endian c first) (map of_read (carried m))) all
+      pub carried-made : AreMadeOf at encoding table (suc first) (map carried_unit (map (λ u. record { module_of = c; unit = u }) (map of_read (carried m)))) (map (wanted_of big_endian c first) (map of_read (carried m))) all
       carried-made = all-made [] (carried m) all refl (suc first) (omega arith) h (λ n above. refl)

@@ -73,21 +73,21 @@ told-length registers names place number [] offsets same = refl
 told-length registers names place number (fs ∷ fss) [] same = absurd (omega (arith, same))
 told-length registers names place number (fs ∷ fss) (offset ∷ offsets) same = ap suc (told-length registers names (suc place) (number + length fs) fss offsets (omega (arith, same)))
 
-functions-of-modules : (number : ℕ) (ts : List ModuleTranslation) (fss : List (List Compiled)) (told : List ToldModule) → length fss ≡ length ts → length told ≡ length ts → all_functions (modules_from number ts fss told) ≡ functions_from number ts fss
-functions-of-modules number [] fss told same counted = refl
-functions-of-modules number (t ∷ ts) [] told same counted = absurd (omega (arith, same))
-functions-of-modules number (t ∷ ts) (fs ∷ fss) [] same counted = absurd (omega (arith, counted))
-functions-of-modules number (t ∷ ts) (fs ∷ fss) (m ∷ told) same counted =
-    ap (λ (gss : List (List Function)). functions_of t.code_section_offset number (map address_map_view fs) ∷ gss) (functions-of-modules (number + length fs) ts fss told (omega (arith, same)) (omega (arith, counted)))
+functions-of-modules : (version number : ℕ) (ts : List ModuleTranslation) (fss : List (List Compiled)) (told : List ToldModule) → length fss ≡ length ts → length told ≡ length ts → all_functions (modules_from version number ts fss told) ≡ functions_from number ts fss
+functions-of-modules version number [] fss told same counted = refl
+functions-of-modules version number (t ∷ ts) [] told same counted = absurd (omega (arith, same))
+functions-of-modules version number (t ∷ ts) (fs ∷ fss) [] same counted = absurd (omega (arith, counted))
+functions-of-modules version number (t ∷ ts) (fs ∷ fss) (m ∷ told) same counted =
+    ap (λ (gss : List (List Function)). functions_of t.code_section_offset number (map address_map_view fs) ∷ gss) (functions-of-modules version (number + length fs) ts fss told (omega (arith, same)) (omega (arith, counted)))
 
 pub counted-length : (ts : List ModuleTranslation) (fss : List (List Compiled)) (offsets : List ModuleMemoryOffset) → IsCounted ts fss offsets → length fss ≡ length ts
 counted-length ts fss offsets counted = sym (length-map fss length) ∙ ap length counted.defined ∙ length-map ts (λ (t : ModuleTranslation). t.defined_funcs)
 
 -- The modules of a compilation have its functions.
-pub functions-are : (registers : Registers) (names : LinkageNames) (ts : List ModuleTranslation) (fss : List (List Compiled)) (offsets : List ModuleMemoryOffset) → IsCounted ts fss offsets → all_functions (modules_from 0 ts fss (told_from registers names 0 0 fss offsets)) ≡ functions_from 0 ts fss
-functions-are registers names ts fss offsets counted =
+pub functions-are : (version : ℕ) (registers : Registers) (names : LinkageNames) (ts : List ModuleTranslation) (fss : List (List Compiled)) (offsets : List ModuleMemoryOffset) → IsCounted ts fss offsets → all_functions (modules_from version 0 ts fss (told_from registers names 0 0 fss offsets)) ≡ functions_from 0 ts fss
+functions-are version registers names ts fss offsets counted =
     let same = counted-length ts fss offsets counted in
-    functions-of-modules 0 ts fss (told_from registers names 0 0 fss offsets) same (told-length registers names 0 0 fss offsets (counted.offsets_given ∙ sym same) ∙ same)
+    functions-of-modules version 0 ts fss (told_from registers names 0 0 fss offsets) same (told-length registers names 0 0 fss offsets (counted.offsets_given ∙ sym same) ∙ same)
 
 -- what is told of the module at a place
 pub told-at : (registers : Registers) (names : LinkageNames) (place number : ℕ) (fss : List (List Compiled)) (offsets : List ModuleMemoryOffset) (i p n : ℕ) (memory : ModuleMemoryOffset) → i < length fss → slice_get offsets i ≡ Some memory → p ≡ place + i → n ≡ number + function_count (take i fss)
@@ -117,25 +117,25 @@ functions-there number (x ∷ ts) (fs ∷ fss) (suc i) n t gs same less first = 
 
 -- ---- the modules that are left
 
-modules-there : (number : ℕ) (ts : List ModuleTranslation) (fss : List (List Compiled)) (told : List ToldModule) (i : ℕ) (t : ModuleTranslation) (gs : List Function) (x : ToldModule) → length fss ≡ length ts → i < length ts → slice_get told i ≡ Some x
-    → drop i (modules_from number ts fss told) ≡ transformed_module (get_or ts i t) (get_or (functions_from number ts fss) i gs) x ∷ drop (suc i) (modules_from number ts fss told)
-modules-there number [] fss told i t gs x same less at = absurd (omega (arith, less))
-modules-there number (y ∷ ts) [] told i t gs x same less at = absurd (omega (arith, same))
-modules-there number (y ∷ ts) (fs ∷ fss) [] i t gs x same less at = absurd (clash at)
+modules-there : (version number : ℕ) (ts : List ModuleTranslation) (fss : List (List Compiled)) (told : List ToldModule) (i : ℕ) (t : ModuleTranslation) (gs : List Function) (x : ToldModule) → length fss ≡ length ts → i < length ts → slice_get told i ≡ Some x
+    → drop i (modules_from version number ts fss told) ≡ transformed_module version (get_or ts i t) (get_or (functions_from number ts fss) i gs) x ∷ drop (suc i) (modules_from version number ts fss told)
+modules-there version number [] fss told i t gs x same less at = absurd (omega (arith, less))
+modules-there version number (y ∷ ts) [] told i t gs x same less at = absurd (omega (arith, same))
+modules-there version number (y ∷ ts) (fs ∷ fss) [] i t gs x same less at = absurd (clash at)
   where
     clash : ◌≡◌ {A = Option ToldModule} None (Some x) → ⊥
     clash e = cc
-modules-there number (y ∷ ts) (fs ∷ fss) (m ∷ told) zero t gs x same less at =
-    ap (λ (z : ToldModule). transformed_module y (functions_of y.code_section_offset number (map address_map_view fs)) z ∷ modules_from (number + length fs) ts fss told) (is at)
+modules-there version number (y ∷ ts) (fs ∷ fss) (m ∷ told) zero t gs x same less at =
+    ap (λ (z : ToldModule). transformed_module version y (functions_of y.code_section_offset number (map address_map_view fs)) z ∷ modules_from version (number + length fs) ts fss told) (is at)
   where
     is : ◌≡◌ {A = Option ToldModule} (Some m) (Some x) → m ≡ x
     is e = cc
-modules-there number (y ∷ ts) (fs ∷ fss) (m ∷ told) (suc i) t gs x same less at = modules-there (number + length fs) ts fss told i t gs x (omega (arith, same)) (omega (arith, less)) at
+modules-there version number (y ∷ ts) (fs ∷ fss) (m ∷ told) (suc i) t gs x same less at = modules-there version (number + length fs) ts fss told i t gs x (omega (arith, same)) (omega (arith, less)) at
 
 -- the modules from a place on
-modules-more : (ts : List ModuleTranslation) (fss : List (List Compiled)) (told : List ToldModule) (i : ℕ) (t : ModuleTranslation) (gs : List Function) (x : ToldModule) → length fss ≡ length ts → i < length ts → slice_get told i ≡ Some x
-    → drop i (modules_from 0 ts fss told) ≡ transformed_module (get_or ts i t) (get_or (functions_from 0 ts fss) i gs) x ∷ drop (i + 1) (modules_from 0 ts fss told)
-modules-more ts fss told i t gs x same less at = rw add-one (modules-there 0 ts fss told i t gs x same less at)
+modules-more : (version : ℕ) (ts : List ModuleTranslation) (fss : List (List Compiled)) (told : List ToldModule) (i : ℕ) (t : ModuleTranslation) (gs : List Function) (x : ToldModule) → length fss ≡ length ts → i < length ts → slice_get told i ≡ Some x
+    → drop i (modules_from version 0 ts fss told) ≡ transformed_module version (get_or ts i t) (get_or (functions_from 0 ts fss) i gs) x ∷ drop (i + 1) (modules_from version 0 ts fss told)
+modules-more version ts fss told i t gs x same less at = rw add-one (modules-there version 0 ts fss told i t gs x same less at)
 
 -- there is a transform for each translation
 pub transforms-inside : (c : CompilationValue) (transforms : List (List Function)) (i : ℕ) → IsCounted c.translations c.functions c.memory_offsets → i < length c.translations → transforms ≡ functions_from 0 c.translations c.functions → i < length transforms
@@ -144,7 +144,7 @@ transforms-inside c transforms i counted less made =
 
 -- The next module is made of its translation, its transform and what is told of it; its functions are those that are told of.
 pub record IsNext (registers : Registers) (c : CompilationValue) (i : ℕ) (t : ModuleTranslation) (fs : List Function) (compiled : CompiledModule) : Type 0 where
-  pub left : drop i (modules_of registers c) ≡ transformed_module t fs (told_by registers compiled) ∷ drop (i + 1) (modules_of registers c)
+  pub left : drop i (modules_of registers c) ≡ transformed_module c.tunables.dwarf_version t fs (told_by registers compiled) ∷ drop (i + 1) (modules_of registers c)
   pub frames : HasFrames compiled fs
 
 pub module-next : (registers : Registers) (c : CompilationValue) (transforms : List (List Function)) (i : ℕ) (t : ModuleTranslation) (fs : List Function) (compiled : CompiledModule) → IsCounted c.translations c.functions c.memory_offsets → i < length c.translations
@@ -158,18 +158,18 @@ module-next registers c transforms i t fs compiled counted less made at_t at_fs 
     let told_now = told_by registers compiled in
     let rest = drop (i + 1) (modules_of registers c) in
     record {
-      left = modules-more c.translations c.functions (told_from registers (names_of c) 0 0 c.functions c.memory_offsets) i t fs told_now same less told
-          ∙ ap (λ (x : ModuleTranslation). transformed_module x (get_or (functions_from 0 c.translations c.functions) i fs) told_now ∷ rest) (sym at_t)
-          ∙ ap (λ (x : List Function). transformed_module t x told_now ∷ rest) (sym here);
+      left = modules-more c.tunables.dwarf_version c.translations c.functions (told_from registers (names_of c) 0 0 c.functions c.memory_offsets) i t fs told_now same less told
+          ∙ ap (λ (x : ModuleTranslation). transformed_module c.tunables.dwarf_version x (get_or (functions_from 0 c.translations c.functions) i fs) told_now ∷ rest) (sym at_t)
+          ∙ ap (λ (x : List Function). transformed_module c.tunables.dwarf_version t x told_now ∷ rest) (sym here);
       frames = subst (HasFrames compiled) (sym (here ∙ functions-there 0 c.translations c.functions i (first_number c.functions i) t fs same less (omega arith))) (frames (get_or c.translations i t).code_section_offset);
     }
 
-modules-few : (number : ℕ) (ts : List ModuleTranslation) (fss : List (List Compiled)) (told : List ToldModule) → length (modules_from number ts fss told) ≤ length ts
-modules-few number [] fss told = omega arith
-modules-few number (t ∷ ts) [] told = omega arith
-modules-few number (t ∷ ts) (fs ∷ fss) [] = omega arith
-modules-few number (t ∷ ts) (fs ∷ fss) (m ∷ told) = omega (arith, modules-few (number + length fs) ts fss told)
+modules-few : (version number : ℕ) (ts : List ModuleTranslation) (fss : List (List Compiled)) (told : List ToldModule) → length (modules_from version number ts fss told) ≤ length ts
+modules-few version number [] fss told = omega arith
+modules-few version number (t ∷ ts) [] told = omega arith
+modules-few version number (t ∷ ts) (fs ∷ fss) [] = omega arith
+modules-few version number (t ∷ ts) (fs ∷ fss) (m ∷ told) = omega (arith, modules-few version (number + length fs) ts fss told)
 
 -- there are no more than translations
-pub modules-length : (ts : List ModuleTranslation) (fss : List (List Compiled)) (told : List ToldModule) → length (modules_from 0 ts fss told) ≤ length ts
-modules-length ts fss told = modules-few 0 ts fss told
+pub modules-length : (version : ℕ) (ts : List ModuleTranslation) (fss : List (List Compiled)) (told : List ToldModule) → length (modules_from version 0 ts fss told) ≤ length ts
+modules-length version ts fss told = modules-few version 0 ts fss told

@@ -4,10 +4,12 @@ use Rattle.std.specs.List.{AllZip, filter, flat_map}
 use Rattle.std.specs.Prelude.{option_to_list, sum_by}
 use Rattle.std.proofs.lemmas.List.Elements.{All-nil, All-cons}
 use Rattle.std.proofs.lemmas.List.Sums.{sum_by-cons, sum_by-append}
+use Rattle.dwc_base.specs.declared.records.Encoding.{Encoding}
 use Rattle.dwc_base.specs.declared.section_name.SectionName.TheVariants.{Line}
 use Rattle.dwc_base.specs.Sections.{Sections}
 use Rattle.dwc_base.specs.Outputs.{OutputSection, output_sections}
 use Rattle.dwc_base.specs.Reading.{◌>>=◌}
+use Rattle.dwc_dwarf.specs.LineHeaders.{LineFile}
 use Rattle.dwc_dwarf.specs.LineRows.{LineTable, segments}
 use Rattle.dwc_native.specs.Images.{is_carried_segment, IsImageOf}
 use Rattle.dwc_output.specs.SimulatedLines.{IsSimulated}
@@ -37,16 +39,16 @@ use Rattle.dwc_unit.proofs.AddedInOrderValues.{texts-in-order}
 use Rattle.dwc_carry.specs.MadeUnits.{HasNamesOf, HasWantedLines, AreMadeOf}
 use Rattle.dwc_carry.proofs.MadeLaws.{all-both, all-flat, made-in-order, texts_of_entry}
 
-module _ (at : ℕ → ℕ → Option (ℕ × ℕ)) (size : ℕ) (texts : List (List ℕ)) where
-  -- the files of a table of version 4 that is read back
-  files-old : (v : Unit) (g : GivenLines) (t : LineTable) → v.header.version ≡ 4 → t.files ≡ files_written v.header.version g.files → t.files ≡ g.files
-  files-old v g t old is = is ∙ ap (λ version. files_written version g.files) old
+module _ (at : ℕ → ℕ → Option (ℕ × ℕ)) (encoding : Encoding) (texts : List (List ℕ)) where
+  -- the files of a table that is read back
+  files-back : (v : Unit) (g : GivenLines) (t : LineTable) (fs : List LineFile) → v.header.version ≡ encoding.version → t.files ≡ files_written v.header.version g.files → g.files ≡ fs → t.files ≡ files_written encoding.version fs
+  files-back v g t fs same is files = is ∙ ap (λ version. files_written version g.files) same ∙ ap (files_written encoding.version) files
 
   -- a line table that is read back carries the table that it was made of
   carries-lines : (s : Sections) (c : CarriedUnit) (g : GivenLines) (v : Unit) (t : Option LineTable) → table_of_unit c.module_of.sections c.unit ≡ Ok t → HasNamesOf t g
-      → AllZip (IsImageOf c.module_of.functions) (filter (is_carried_segment c.module_of.functions) (segments_of t)) (given_segments g) → v.header.version ≡ 4 → ReadsLines s v g g.address_size → CarriesUnit 4 s c v
+      → AllZip (IsImageOf c.module_of.functions) (filter (is_carried_segment c.module_of.functions) (segments_of t)) (given_segments g) → v.header.version ≡ encoding.version → ReadsLines s v g g.address_size → CarriesUnit encoding.version s c v
   unfolding segments_of_unit
-  carries-lines s c g v None is_read names images old read = record {
+  carries-lines s c g v None is_read names images same read = record {
     input = None;
     input_read = is_read;
     made = None;
@@ -54,7 +56,7 @@ module _ (at : ℕ → ℕ → Option (ℕ × ℕ)) (size : ℕ) (texts : List (
     kept = tt;
     carried = record { input = []; input_read = ap (λ x. x >>= λ t. Ok (segments_of t)) is_read; each = tt };
   }
-  carries-lines s c g v (Some t) is_read names images old read =
+  carries-lines s c g v (Some t) is_read names images same read =
       let fs = c.module_of.functions in
       let back : ReadsTable s v g = subst (ReadsLines s v g) names.sized read in
       record {
@@ -62,7 +64,7 @@ module _ (at : ℕ → ℕ → Option (ℕ × ℕ)) (size : ℕ) (texts : List (
         input_read = is_read;
         made = Some back.table;
         made_read = back.table_read;
-        kept = record { version_is = back.version ∙ old; directories = back.directories ∙ names.directories; files = files-old v g back.table old back.files ∙ names.files };
+        kept = record { version_is = back.version ∙ same; directories = back.directories ∙ names.directories; files = files-back v g back.table t.files same back.files names.files };
         carried = record {
           input = segments t;
           input_read = ap (λ x. x >>= λ t. Ok (segments_of t)) is_read;
@@ -71,21 +73,21 @@ module _ (at : ℕ → ℕ → Option (ℕ × ℕ)) (size : ℕ) (texts : List (
       }
 
   -- a unit that is read back carries what it was made of
-  carries-unit : (s : Sections) (w : WantedUnit) (u : GivenUnit) (v : Unit) → HasWantedLines w u → u.version ≡ 4 → IsReadUnit s (ordered u) v → HasLines 4 s w v
-  carries-unit s synthetic_unit u v lines old read = subst (ReadsLines s v u.lines) (ap (λ (g : GivenLines). g.address_size) lines) read.lines
-  carries-unit s (carried_unit c) u v lines old read = carries-lines s c u.lines v lines.table lines.table_read lines.names lines.images (read.version ∙ old) read.lines
-  carries-unit s (unit_of_simulated name translated ms) u v lines old read =
+  carries-unit : (s : Sections) (w : WantedUnit) (u : GivenUnit) (v : Unit) → HasWantedLines w u → u.version ≡ encoding.version → IsReadUnit s (ordered u) v → HasLines encoding.version s w v
+  carries-unit s synthetic_unit u v lines same read = subst (ReadsLines s v u.lines) (ap (λ (g : GivenLines). g.address_size) lines) read.lines
+  carries-unit s (carried_unit c) u v lines same read = carries-lines s c u.lines v lines.table lines.table_read lines.names lines.images (read.version ∙ same) read.lines
+  carries-unit s (unit_of_simulated name translated ms) u v lines same read =
       let back : ReadsTable s v u.lines = subst (ReadsLines s v u.lines) lines.names.sized read.lines in
       record {
         made = back.table;
         made_read = back.table_read;
-        version_is = back.version ∙ (read.version ∙ old);
+        version_is = back.version ∙ (read.version ∙ same);
         directories = back.directories ∙ lines.names.directories;
-        files = files-old v u.lines back.table (read.version ∙ old) back.files ∙ lines.names.files;
+        files = files-back v u.lines back.table (record { directory = 0; name = name } ∷ []) (read.version ∙ same) back.files lines.names.files;
         each = subst (AllZip (λ f segment. IsSimulated name f.0 f.1 segment) (simulated_in_files translated ms)) (sym back.sequences) lines.segments;
       }
 
-  carries-units : (s : Sections) (number : ℕ) (cs : List WantedUnit) (ts : List Tree) (us : List GivenUnit) (vs : List Unit) → AreMadeOf at size texts number cs ts us → AllZip (IsReadUnit s) (map ordered us) vs → AllZip (HasLines 4 s) cs vs
+  carries-units : (s : Sections) (number : ℕ) (cs : List WantedUnit) (ts : List Tree) (us : List GivenUnit) (vs : List Unit) → AreMadeOf at encoding texts number cs ts us → AllZip (IsReadUnit s) (map ordered us) vs → AllZip (HasLines encoding.version s) cs vs
   carries-units s number [] [] [] [] made read = tt
   carries-units s number [] [] [] (v ∷ vs) made read = absurd read
   carries-units s number [] [] (u ∷ us) vs made read = absurd made
@@ -97,7 +99,7 @@ module _ (at : ℕ → ℕ → Option (ℕ × ℕ)) (size : ℕ) (texts : List (
 
   -- Sections from which such units are read back carry the lines.
   pub lines-carried : (c : Compilation) (ts : List Tree) (us : List GivenUnit) (s : List OutputSection)
-      → ReadsBack c.order (map ordered us) s → AreMadeOf at size texts 0 (wanted_units c) ts us → All (λ m. (units m.sections).fault ≡ None) c.modules → c.version ≡ 4 → LinesCarried c s
+      → ReadsBack c.order (map ordered us) s → AreMadeOf at encoding texts 0 (wanted_units c) ts us → All (λ m. (units m.sections).fault ≡ None) c.modules → c.version ≡ encoding.version → LinesCarried c s
   lines-carried c ts us s back made whole version_is = record {
     whole = whole;
     output = back.read;
@@ -108,87 +110,42 @@ module _ (at : ℕ → ℕ → Option (ℕ × ℕ)) (size : ℕ) (texts : List (
   }
 
   -- all have addresses of one size
-  pub made-sizes : (number : ℕ) (cs : List WantedUnit) (ts : List Tree) (us : List GivenUnit) → AreMadeOf at size texts number cs ts us → All (λ u. u.address_size ≡ size) us
-  made-sizes number [] [] [] made = All-nil (λ (u : GivenUnit). u.address_size ≡ size)
+  pub made-sizes : (number : ℕ) (cs : List WantedUnit) (ts : List Tree) (us : List GivenUnit) → AreMadeOf at encoding texts number cs ts us → All (λ u. u.address_size ≡ encoding.address_size) us
+  made-sizes number [] [] [] made = All-nil (λ (u : GivenUnit). u.address_size ≡ encoding.address_size)
   made-sizes number [] [] (u ∷ us) made = absurd made
   made-sizes number [] (t ∷ ts) us made = absurd made
   made-sizes number (c ∷ cs) [] us made = absurd made
   made-sizes number (c ∷ cs) (t ∷ ts) [] made = absurd made
-  made-sizes number (c ∷ cs) (t ∷ ts) (u ∷ us) made = All-cons (λ (u : GivenUnit). u.address_size ≡ size) u us ((made.0).writable).size (made-sizes (suc number) cs ts us made.1)
+  made-sizes number (c ∷ cs) (t ∷ ts) (u ∷ us) made = All-cons (λ (u : GivenUnit). u.address_size ≡ encoding.address_size) u us ((made.0).writable).size (made-sizes (suc number) cs ts us made.1)
 
-  -- all are of version 4
-  pub made-versions : (number : ℕ) (cs : List WantedUnit) (ts : List Tree) (us : List GivenUnit) → AreMadeOf at size texts number cs ts us → All (λ u. u.version ≡ 4) us
-  made-versions number [] [] [] made = All-nil (λ (u : GivenUnit). u.version ≡ 4)
+  -- all are of one version
+  pub made-versions : (number : ℕ) (cs : List WantedUnit) (ts : List Tree) (us : List GivenUnit) → AreMadeOf at encoding texts number cs ts us → All (λ u. u.version ≡ encoding.version) us
+  made-versions number [] [] [] made = All-nil (λ (u : GivenUnit). u.version ≡ encoding.version)
   made-versions number [] [] (u ∷ us) made = absurd made
   made-versions number [] (t ∷ ts) us made = absurd made
   made-versions number (c ∷ cs) [] us made = absurd made
   made-versions number (c ∷ cs) (t ∷ ts) [] made = absurd made
-  made-versions number (c ∷ cs) (t ∷ ts) (u ∷ us) made = All-cons (λ (u : GivenUnit). u.version ≡ 4) u us made.0.writable.version (made-versions (suc number) cs ts us made.1)
+  made-versions number (c ∷ cs) (t ∷ ts) (u ∷ us) made = All-cons (λ (u : GivenUnit). u.version ≡ encoding.version) u us made.0.writable.version (made-versions (suc number) cs ts us made.1)
 
-  -- and so is the version that they share
-  pub made-version : (number : ℕ) (cs : List WantedUnit) (ts : List Tree) (us : List GivenUnit) → AreMadeOf at size texts number cs ts us → version_of (map ordered us) ≡ 4
-  made-version number [] [] [] made = refl
-  made-version number [] [] (u ∷ us) made = absurd made
-  made-version number [] (t ∷ ts) us made = absurd made
-  made-version number (c ∷ cs) [] us made = absurd made
-  made-version number (c ∷ cs) (t ∷ ts) [] made = absurd made
-  made-version number (c ∷ cs) (t ∷ ts) (u ∷ us) made = made.0.writable.version
+  -- which they share, where there are some
+  pub made-version : (number : ℕ) (cs : List WantedUnit) (ts : List Tree) (us : List GivenUnit) → AreMadeOf at encoding texts number cs ts us → 0 < length us → version_of (map ordered us) ≡ encoding.version
+  made-version number [] [] [] made some = absurd (omega (arith, some))
+  made-version number [] [] (u ∷ us) made some = absurd made
+  made-version number [] (t ∷ ts) us made some = absurd made
+  made-version number (c ∷ cs) [] us made some = absurd made
+  made-version number (c ∷ cs) (t ∷ ts) [] made some = absurd made
+  made-version number (c ∷ cs) (t ∷ ts) (u ∷ us) made some = made.0.writable.version
 
-  -- the widest lines of a unit that is wanted
-  abbrev widest_wanted : WantedUnit → ℕ
-  widest_wanted synthetic_unit = 0
-  widest_wanted (carried_unit c) = widest_lines_of c
-  widest_wanted (unit_of_simulated name translated ms) = widest_simulated_lines name (simulated_in_files translated ms)
-
-  unit-widest : (w : WantedUnit) (u : GivenUnit) → HasWantedLines w u → widest_table_for 4 u.lines.address_size u.lines ≤ widest_wanted w
-  unit-widest synthetic_unit u lines = subst (λ (g : GivenLines). widest_table_for 4 g.address_size g ≤ 0) (sym lines) (omega arith)
-  unit-widest (carried_unit c) u lines = lines.widest
-  unit-widest (unit_of_simulated name translated ms) u lines = lines.widest
-
-  made-widest : (number : ℕ) (cs : List WantedUnit) (ts : List Tree) (us : List GivenUnit) → AreMadeOf at size texts number cs ts us → sum_by (widest_unit Line) (map ordered us) ≤ sum_by widest_wanted cs
-  made-widest number [] [] [] made = omega arith
-  made-widest number [] [] (u ∷ us) made = absurd made
-  made-widest number [] (t ∷ ts) us made = absurd made
-  made-widest number (c ∷ cs) [] us made = absurd made
-  made-widest number (c ∷ cs) (t ∷ ts) [] made = absurd made
-  made-widest number (c ∷ cs) (t ∷ ts) (u ∷ us) made =
-      let own : widest_unit Line (ordered u) ≤ widest_wanted c = subst (λ version. widest_table_for version u.lines.address_size u.lines ≤ widest_wanted c) (sym made.0.writable.version) (unit-widest c u made.0.has_lines) in
-      rw (sum_by-cons (widest_unit Line) (ordered u) (map ordered us), sum_by-cons widest_wanted c cs) (omega (arith, own, made-widest (suc number) cs ts us made.1))
-
-  -- synthetic units have no lines
-  widest-carried : (us : List CarriedUnit) → sum_by widest_wanted (map carried_unit us) ≡ sum_by widest_lines_of us
-  widest-carried [] = refl
-  widest-carried (u ∷ us) = rw (sum_by-cons widest_wanted (carried_unit u) (map carried_unit us), sum_by-cons widest_lines_of u us) (ap (λ n. widest_lines_of u + n) (widest-carried us))
-
-  widest-modules : (ms : List Module) → sum_by widest_wanted (flat_map wanted_units_of ms) ≡ sum_by widest_lines_of (flat_map carried_units_of ms)
-  widest-modules [] = refl
-  widest-modules (m ∷ ms) =
-      let rest = flat_map wanted_units_of ms in
-      let synthetic = sum_by-cons widest_wanted synthetic_unit (map carried_unit (carried_units_of m) ++ rest) in
-      let split = sum_by-append widest_wanted (map carried_unit (carried_units_of m)) rest in
-      let carried = sum_by-append widest_lines_of (carried_units_of m) (flat_map carried_units_of ms) in
-      omega (arith, synthetic, split, carried, widest-carried (carried_units_of m), widest-modules ms)
-
-  -- the simulated unit has its own
-  widest-behind : (translated : ℕ → Bool) (next_id : ℕ) (ms : List Module) → sum_by widest_wanted (simulated_wanted translated next_id ms) ≡ widest_simulated translated next_id ms
-  widest-behind translated next_id [] = refl
-  widest-behind translated next_id (m ∷ ms) = omega arith
-
-  -- Their line tables are no longer, at their widest, than those of the input.
-  pub widest-given : (number : ℕ) (c : Compilation) (ts : List Tree) (us : List GivenUnit) → AreMadeOf at size texts number (wanted_units c) ts us → widest_given Line (map ordered us) ≤ sum_by widest_lines_of (carried_units c) + widest_simulated (is_begun c.modules) c.next_id c.modules
-  widest-given number c ts us made =
-      omega (arith, made-widest number (wanted_units c) ts us made, sum_by-append widest_wanted (module_units c) (simulated_wanted (is_begun c.modules) c.next_id c.modules), widest-modules c.modules, widest-behind (is_begun c.modules) c.next_id c.modules)
-
-  each-writable : (number : ℕ) (cs : List WantedUnit) (ts : List Tree) (us : List GivenUnit) → AreMadeOf at size texts number cs ts us → All (IsWritable 4 size) (map ordered us)
-  each-writable number [] [] [] made = All-nil (IsWritable 4 size)
+  each-writable : (number : ℕ) (cs : List WantedUnit) (ts : List Tree) (us : List GivenUnit) → AreMadeOf at encoding texts number cs ts us → All (IsWritable encoding.version encoding.address_size) (map ordered us)
+  each-writable number [] [] [] made = All-nil (IsWritable encoding.version encoding.address_size)
   each-writable number [] [] (u ∷ us) made = absurd made
   each-writable number [] (t ∷ ts) us made = absurd made
   each-writable number (c ∷ cs) [] us made = absurd made
   each-writable number (c ∷ cs) (t ∷ ts) [] made = absurd made
-  each-writable number (c ∷ cs) (t ∷ ts) (u ∷ us) made = All-cons (IsWritable 4 size) (ordered u) (map ordered us) made.0.writable (each-writable (suc number) cs ts us made.1)
+  each-writable number (c ∷ cs) (t ∷ ts) (u ∷ us) made = All-cons (IsWritable encoding.version encoding.address_size) (ordered u) (map ordered us) made.0.writable (each-writable (suc number) cs ts us made.1)
 
   -- All of them can be written.
-  pub made-writable : (number : ℕ) (cs : List WantedUnit) (ts : List Tree) (us : List GivenUnit) → AreMadeOf at size texts number cs ts us → AreWritable (map ordered us)
+  pub made-writable : (number : ℕ) (cs : List WantedUnit) (ts : List Tree) (us : List GivenUnit) → AreMadeOf at encoding texts number cs ts us → AreWritable (map ordered us)
   made-writable number [] [] [] made = All-nil (IsWritable 4 8)
   made-writable number [] [] (u ∷ us) made = absurd made
   made-writable number [] (t ∷ ts) us made = absurd made
@@ -196,11 +153,11 @@ module _ (at : ℕ → ℕ → Option (ℕ × ℕ)) (size : ℕ) (texts : List (
   made-writable number (c ∷ cs) (t ∷ ts) [] made = absurd made
   made-writable number (c ∷ cs) (t ∷ ts) (u ∷ us) made =
       subst (λ version. All (IsWritable version u.address_size) (map ordered (u ∷ us))) (sym made.0.writable.version)
-      (subst (λ n. All (IsWritable 4 n) (map ordered (u ∷ us))) (sym made.0.writable.size) (each-writable number (c ∷ cs) (t ∷ ts) (u ∷ us) made))
+      (subst (λ n. All (IsWritable encoding.version n) (map ordered (u ∷ us))) (sym made.0.writable.size) (each-writable number (c ∷ cs) (t ∷ ts) (u ∷ us) made))
 
   -- ---- texts and trees
 
-  named-texts : (number : ℕ) (cs : List WantedUnit) (ts : List Tree) (us : List GivenUnit) → AreMadeOf at size texts number cs ts us → All (λ n. n < length texts) (flat_map (λ u. flat_map texts_of_entry u.additions) us)
+  named-texts : (number : ℕ) (cs : List WantedUnit) (ts : List Tree) (us : List GivenUnit) → AreMadeOf at encoding texts number cs ts us → All (λ n. n < length texts) (flat_map (λ u. flat_map texts_of_entry u.additions) us)
   named-texts number [] [] [] made = All-nil (λ (n : ℕ). n < length texts)
   named-texts number [] [] (u ∷ us) made = absurd made
   named-texts number [] (t ∷ ts) us made = absurd made
@@ -211,15 +168,15 @@ module _ (at : ℕ → ℕ → Option (ℕ × ℕ)) (size : ℕ) (texts : List (
       (all-flat (λ (n : ℕ). n < length texts) texts_of_entry u.additions made.0.texts) (named-texts (suc number) cs ts us made.1)
 
   -- All texts that they name are in the table.
-  pub made-texts : (number : ℕ) (cs : List WantedUnit) (ts : List Tree) (us : List GivenUnit) → AreMadeOf at size texts number cs ts us → HaveTexts texts (map ordered us)
+  pub made-texts : (number : ℕ) (cs : List WantedUnit) (ts : List Tree) (us : List GivenUnit) → AreMadeOf at encoding texts number cs ts us → HaveTexts texts (map ordered us)
   made-texts number cs ts us made =
-      let said = made-in-order at size texts number cs ts us made in
+      let said = made-in-order at encoding texts number cs ts us made in
       subst (All (λ n. n < length texts)) (sym (texts-in-order said.depths us said.orders)) (named-texts number cs ts us made)
 
 -- They say the trees, where numbers are put to the places of their entries.
-pub made-trees : (size : ℕ) (texts : List (List ℕ)) (cs : List WantedUnit) (ts : List Tree) (us : List GivenUnit) → AreMadeOf (place_at us) size texts 0 cs ts us → given_trees texts (map ordered us) ≡ ts
-made-trees size texts cs ts us made =
-    let said = made-in-order (place_at us) size texts 0 cs ts us made in
+pub made-trees : (encoding : Encoding) (texts : List (List ℕ)) (cs : List WantedUnit) (ts : List Tree) (us : List GivenUnit) → AreMadeOf (place_at us) encoding texts 0 cs ts us → given_trees texts (map ordered us) ≡ ts
+made-trees encoding texts cs ts us made =
+    let said = made-in-order (place_at us) encoding texts 0 cs ts us made in
     trees-renumbered texts said.depths us said.orders said.leads ∙ said.says
 
 -- The trees of an input are those of its modules, and the last.

@@ -5,6 +5,7 @@ use Rattle.std.specs.Option.{option_or}
 use Rattle.std.specs.List.{flat_map}
 use Rattle.std.proofs.lemmas.List.{append-nil, append_assoc}
 use Rattle.std.proofs.lemmas.List.Elements.{All-head}
+use Rattle.dwc_base.specs.declared.records.Encoding.{Encoding}
 use Rattle.dwc_base.specs.declared.records.Endian.{Endian}
 use Rattle.dwc_native.specs.CallFrames.{CommonEntry, FrameDescription}
 use Rattle.dwc_rules.specs.Carried.{Compilation, Module}
@@ -124,15 +125,15 @@ module _ (ds : List (ℕ × FrameDescription)) where
 -- ---- units
 
 -- Where a module has a function that is described, there is a unit.
-pub unit-there : (at : ℕ → ℕ → Option (ℕ × ℕ)) (size : ℕ) (texts : List (List ℕ)) (c : Compilation) (ts : List Tree) (us : List GivenUnit) → AreMadeOf at size texts 0 (wanted_units c) ts us
+pub unit-there : (at : ℕ → ℕ → Option (ℕ × ℕ)) (encoding : Encoding) (texts : List (List ℕ)) (c : Compilation) (ts : List Tree) (us : List GivenUnit) → AreMadeOf at encoding texts 0 (wanted_units c) ts us
     → 0 < length (frame_descriptions c) → 0 < length us
-unit-there at size texts c ts us = go c.modules
+unit-there at encoding texts c ts us = go c.modules
   where
-    go : (ms : List Module) → AreMadeOf at size texts 0 (wanted_units (record c { modules = ms })) ts us → 0 < length (frame_descriptions (record c { modules = ms })) → 0 < length us
+    go : (ms : List Module) → AreMadeOf at encoding texts 0 (wanted_units (record c { modules = ms })) ts us → 0 < length (frame_descriptions (record c { modules = ms })) → 0 < length us
     go [] made some = absurd (omega (arith, some))
     go (m ∷ ms) made some = first ts us made
       where
-        first : (ts : List Tree) (us : List GivenUnit) → AreMadeOf at size texts 0 (wanted_units (record c { modules = m ∷ ms })) ts us → 0 < length us
+        first : (ts : List Tree) (us : List GivenUnit) → AreMadeOf at encoding texts 0 (wanted_units (record c { modules = m ∷ ms })) ts us → 0 < length us
         first [] us made = absurd made
         first (t ∷ ts) [] made = absurd made
         first (t ∷ ts) (u ∷ us) made = omega arith

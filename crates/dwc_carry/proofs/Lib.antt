@@ -43,6 +43,7 @@ pub mod CarriedMade
 pub mod UnitSources
 pub mod UnitsInOrder
 pub mod WalkLaws
+pub mod WidestMade
 pub mod NameSearch
 pub mod PlainNames
 pub mod GroupLaws

@@ -6,6 +6,7 @@ use Rattle.std.proofs.lemmas.List.Elements.{All-nil, All-cons, All-head, All-tai
 use Rattle.dwc_rules.specs.Carried.{WantedUnit}
 use Rattle.dwc_dwarf.specs.Trees.{Tree}
 use Rattle.std.specs.Prelude.{slice_get, option_map, option_and_then}
+use Rattle.dwc_base.specs.declared.records.Encoding.{Encoding}
 use Rattle.dwc_unit.specs.GivenUnits.{Addition, GivenUnit, place_of}
 use Rattle.dwc_unit.specs.UsedTexts.{texts_of_attributes}
 use Rattle.dwc_unit.specs.AddedInOrder.{IsInOrder, trees_meant}
@@ -52,8 +53,8 @@ texts-more texts more es h =
     all-more (λ (e : Addition). All P (texts_of_entry e)) (λ (e : Addition). All Q (texts_of_entry e))
     (λ e has. all-more P Q (λ n less. omega (arith, less, length-append texts more)) (texts_of_entry e) has) es h
 
-made-with : (at : ℕ → ℕ → Option (ℕ × ℕ)) (size : ℕ) (texts more : List (List ℕ)) (number : ℕ) (c : WantedUnit) (t : Tree) (u : GivenUnit) → IsMadeOf at size texts number c t u → IsMadeOf at size (texts ++ more) number c t u
-made-with at size texts more number c t u h = record {
+made-with : (at : ℕ → ℕ → Option (ℕ × ℕ)) (encoding : Encoding) (texts more : List (List ℕ)) (number : ℕ) (c : WantedUnit) (t : Tree) (u : GivenUnit) → IsMadeOf at encoding texts number c t u → IsMadeOf at encoding (texts ++ more) number c t u
+made-with at encoding texts more number c t u h = record {
   has_lines = h.has_lines;
   depths = h.depths;
   order = h.order;
@@ -65,38 +66,38 @@ made-with at size texts more number c t u h = record {
 
 -- ---- units in order
 
-made-more-with : (at : ℕ → ℕ → Option (ℕ × ℕ)) (size : ℕ) (texts more : List (List ℕ)) (number : ℕ) (cs : List WantedUnit) (ts : List Tree) (us : List GivenUnit) → AreMadeOf at size texts number cs ts us → AreMadeOf at size (texts ++ more) number cs ts us
-made-more-with at size texts more number [] [] [] h = h
-made-more-with at size texts more number [] [] (u ∷ us) h = absurd h
-made-more-with at size texts more number [] (t ∷ ts) us h = absurd h
-made-more-with at size texts more number (c ∷ cs) [] us h = absurd h
-made-more-with at size texts more number (c ∷ cs) (t ∷ ts) [] h = absurd h
-made-more-with at size texts more number (c ∷ cs) (t ∷ ts) (u ∷ us) h = (made-with at size texts more number c t u h.0, made-more-with at size texts more (suc number) cs ts us h.1)
+made-more-with : (at : ℕ → ℕ → Option (ℕ × ℕ)) (encoding : Encoding) (texts more : List (List ℕ)) (number : ℕ) (cs : List WantedUnit) (ts : List Tree) (us : List GivenUnit) → AreMadeOf at encoding texts number cs ts us → AreMadeOf at encoding (texts ++ more) number cs ts us
+made-more-with at encoding texts more number [] [] [] h = h
+made-more-with at encoding texts more number [] [] (u ∷ us) h = absurd h
+made-more-with at encoding texts more number [] (t ∷ ts) us h = absurd h
+made-more-with at encoding texts more number (c ∷ cs) [] us h = absurd h
+made-more-with at encoding texts more number (c ∷ cs) (t ∷ ts) [] h = absurd h
+made-more-with at encoding texts more number (c ∷ cs) (t ∷ ts) (u ∷ us) h = (made-with at encoding texts more number c t u h.0, made-more-with at encoding texts more (suc number) cs ts us h.1)
 
 -- Units say the same with more texts.
-pub made-grown : (at : ℕ → ℕ → Option (ℕ × ℕ)) (size : ℕ) (old new : List (List ℕ)) (number : ℕ) (cs : List WantedUnit) (ts : List Tree) (us : List GivenUnit) → Grows old new → AreMadeOf at size old number cs ts us → AreMadeOf at size new number cs ts us
-made-grown at size old new number cs ts us grows h = subst (λ texts. AreMadeOf at size texts number cs ts us) (sym grows.is) (made-more-with at size old grows.more number cs ts us h)
+pub made-grown : (at : ℕ → ℕ → Option (ℕ × ℕ)) (encoding : Encoding) (old new : List (List ℕ)) (number : ℕ) (cs : List WantedUnit) (ts : List Tree) (us : List GivenUnit) → Grows old new → AreMadeOf at encoding old number cs ts us → AreMadeOf at encoding new number cs ts us
+made-grown at encoding old new number cs ts us grows h = subst (λ texts. AreMadeOf at encoding texts number cs ts us) (sym grows.is) (made-more-with at encoding old grows.more number cs ts us h)
 
 -- There is one for each tree.
-pub made-length : (at : ℕ → ℕ → Option (ℕ × ℕ)) (size : ℕ) (texts : List (List ℕ)) (number : ℕ) (cs : List WantedUnit) (ts : List Tree) (us : List GivenUnit) → AreMadeOf at size texts number cs ts us → length ts ≡ length us
-made-length at size texts number [] [] [] h = refl
-made-length at size texts number [] [] (u ∷ us) h = absurd h
-made-length at size texts number [] (t ∷ ts) us h = absurd h
-made-length at size texts number (c ∷ cs) [] us h = absurd h
-made-length at size texts number (c ∷ cs) (t ∷ ts) [] h = absurd h
-made-length at size texts number (c ∷ cs) (t ∷ ts) (u ∷ us) h = ap suc (made-length at size texts (suc number) cs ts us h.1)
+pub made-length : (at : ℕ → ℕ → Option (ℕ × ℕ)) (encoding : Encoding) (texts : List (List ℕ)) (number : ℕ) (cs : List WantedUnit) (ts : List Tree) (us : List GivenUnit) → AreMadeOf at encoding texts number cs ts us → length ts ≡ length us
+made-length at encoding texts number [] [] [] h = refl
+made-length at encoding texts number [] [] (u ∷ us) h = absurd h
+made-length at encoding texts number [] (t ∷ ts) us h = absurd h
+made-length at encoding texts number (c ∷ cs) [] us h = absurd h
+made-length at encoding texts number (c ∷ cs) (t ∷ ts) [] h = absurd h
+made-length at encoding texts number (c ∷ cs) (t ∷ ts) (u ∷ us) h = ap suc (made-length at encoding texts (suc number) cs ts us h.1)
 
 -- others behind them
-pub made-both : (at : ℕ → ℕ → Option (ℕ × ℕ)) (size : ℕ) (texts : List (List ℕ)) (number next : ℕ) (cs ds : List WantedUnit) (ts ws : List Tree) (us vs : List GivenUnit) → next ≡ number + length us
-    → AreMadeOf at size texts number cs ts us → AreMadeOf at size texts next ds ws vs → AreMadeOf at size texts number (cs ++ ds) (ts ++ ws) (us ++ vs)
-made-both at size texts number next [] ds [] ws [] vs is h k =
+pub made-both : (at : ℕ → ℕ → Option (ℕ × ℕ)) (encoding : Encoding) (texts : List (List ℕ)) (number next : ℕ) (cs ds : List WantedUnit) (ts ws : List Tree) (us vs : List GivenUnit) → next ≡ number + length us
+    → AreMadeOf at encoding texts number cs ts us → AreMadeOf at encoding texts next ds ws vs → AreMadeOf at encoding texts number (cs ++ ds) (ts ++ ws) (us ++ vs)
+made-both at encoding texts number next [] ds [] ws [] vs is h k =
     let same : next ≡ number = omega (arith, is) in
-    subst (λ n. AreMadeOf at size texts n ds ws vs) same k
-made-both at size texts number next [] ds [] ws (u ∷ us) vs is h k = absurd h
-made-both at size texts number next [] ds (t ∷ ts) ws us vs is h k = absurd h
-made-both at size texts number next (c ∷ cs) ds [] ws us vs is h k = absurd h
-made-both at size texts number next (c ∷ cs) ds (t ∷ ts) ws [] vs is h k = absurd h
-made-both at size texts number next (c ∷ cs) ds (t ∷ ts) ws (u ∷ us) vs is h k = (h.0, made-both at size texts (suc number) next cs ds ts ws us vs (omega (arith, is)) h.1 k)
+    subst (λ n. AreMadeOf at encoding texts n ds ws vs) same k
+made-both at encoding texts number next [] ds [] ws (u ∷ us) vs is h k = absurd h
+made-both at encoding texts number next [] ds (t ∷ ts) ws us vs is h k = absurd h
+made-both at encoding texts number next (c ∷ cs) ds [] ws us vs is h k = absurd h
+made-both at encoding texts number next (c ∷ cs) ds (t ∷ ts) ws [] vs is h k = absurd h
+made-both at encoding texts number next (c ∷ cs) ds (t ∷ ts) ws (u ∷ us) vs is h k = (h.0, made-both at encoding texts (suc number) next cs ds ts ws us vs (omega (arith, is)) h.1 k)
 
 -- Their entries are in file order, and say the trees where numbers are put to places.
 pub record SayInOrder (at : ℕ → ℕ → Option (ℕ × ℕ)) (texts : List (List ℕ)) (number : ℕ) (ts : List Tree) (us : List GivenUnit) : Type 0 where
@@ -105,14 +106,14 @@ pub record SayInOrder (at : ℕ → ℕ → Option (ℕ × ℕ)) (texts : List (
   pub leads : All LeadsToEntries us
   pub says : renumbered_trees at (trees_meant texts number depths us) ≡ ts
 
-pub made-in-order : (at : ℕ → ℕ → Option (ℕ × ℕ)) (size : ℕ) (texts : List (List ℕ)) (number : ℕ) (cs : List WantedUnit) (ts : List Tree) (us : List GivenUnit) → AreMadeOf at size texts number cs ts us → SayInOrder at texts number ts us
-made-in-order at size texts number [] [] [] h = record { depths = []; orders = tt; leads = All-nil LeadsToEntries; says = refl }
-made-in-order at size texts number [] [] (u ∷ us) h = absurd h
-made-in-order at size texts number [] (t ∷ ts) us h = absurd h
-made-in-order at size texts number (c ∷ cs) [] us h = absurd h
-made-in-order at size texts number (c ∷ cs) (t ∷ ts) [] h = absurd h
-made-in-order at size texts number (c ∷ cs) (t ∷ ts) (u ∷ us) h =
-    let rest = made-in-order at size texts (suc number) cs ts us h.1 in
+pub made-in-order : (at : ℕ → ℕ → Option (ℕ × ℕ)) (encoding : Encoding) (texts : List (List ℕ)) (number : ℕ) (cs : List WantedUnit) (ts : List Tree) (us : List GivenUnit) → AreMadeOf at encoding texts number cs ts us → SayInOrder at texts number ts us
+made-in-order at encoding texts number [] [] [] h = record { depths = []; orders = tt; leads = All-nil LeadsToEntries; says = refl }
+made-in-order at encoding texts number [] [] (u ∷ us) h = absurd h
+made-in-order at encoding texts number [] (t ∷ ts) us h = absurd h
+made-in-order at encoding texts number (c ∷ cs) [] us h = absurd h
+made-in-order at encoding texts number (c ∷ cs) (t ∷ ts) [] h = absurd h
+made-in-order at encoding texts number (c ∷ cs) (t ∷ ts) (u ∷ us) h =
+    let rest = made-in-order at encoding texts (suc number) cs ts us h.1 in
     record {
       depths = h.0.depths ∷ rest.depths;
       orders = (h.0.order, rest.orders);

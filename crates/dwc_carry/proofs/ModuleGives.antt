@@ -3,6 +3,7 @@ use Rattle.std.proofs.Common.{◌≡◌, ℕ, List, [], ◌∷◌, ◌++◌, map
 use Rattle.std.specs.Prelude.{option_map, option_to_list}
 use Rattle.std.specs.List.{flat_map}
 use Rattle.dwc_base.specs.declared.faults.Kind.TheVariants.{Compressed}
+use Rattle.dwc_base.specs.declared.records.Encoding.{Encoding}
 use Rattle.dwc_base.specs.Sections.{Fault, unsupported}
 use Rattle.dwc_rules.specs.Carried.{Module}
 use Rattle.dwc_dwarf.specs.ReadUnits.{units}
@@ -55,11 +56,11 @@ module _ (m : Module) (plain : m.compressed ≡ None) where
   pub module-refused : (e : ReadFault) → TellsFirst (first_of (info_faults (named_faults m.sections) m.sections)) (fault_seen e) → RefusesReading (first_of (reading_refusals m)) (of_reading e)
   module-refused e h = subst (λ rs. RefusesReading (first_of rs) (of_reading e)) (sym refusals-plain) (kept-told (info_faults (named_faults m.sections) m.sections) (flat_map (refusals_of m) (carried_in (kept_of m))) e h)
 
-  module _ (size : ℕ) (big_endian : Bool) (none : first_of (info_faults (named_faults m.sections) m.sections) ≡ None) (whole : (units m.sections).fault ≡ None) where
+  module _ (encoding : Encoding) (big_endian : Bool) (none : first_of (info_faults (named_faults m.sections) m.sections) ≡ None) (whole : (units m.sections).fault ≡ None) where
     refusals-are : reading_refusals m ≡ flat_map (refusals_of m) (carried_in (kept_of m))
     refusals-are = refusals-plain ∙ none-mapped (info_faults (named_faults m.sections) m.sections) (flat_map (refusals_of m) (carried_in (kept_of m))) none
 
     -- What is answered for its units is answered for it.
-    pub module-gives : (synthetic : ℕ) (old new : Dwarf) (result : Result (Prim.Unit {0}) DebugError) → GivesUnits size big_endian m synthetic old new result → GivesCarried size big_endian m synthetic old new result
+    pub module-gives : (synthetic : ℕ) (old new : Dwarf) (result : Result (Prim.Unit {0}) DebugError) → GivesUnits encoding big_endian m synthetic old new result → GivesCarried encoding big_endian m synthetic old new result
     module-gives synthetic old new (Ok done) h = (ap (λ (rs : List Refusal). option_map in_reading (first_of rs)) refusals-are ∙ h.0, record { units_added = h.1; whole = whole })
     module-gives synthetic old new (Err e) h = subst (λ rs. RefusesReading (first_of rs) e) (sym refusals-are) h

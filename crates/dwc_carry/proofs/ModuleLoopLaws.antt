@@ -5,6 +5,7 @@ use Rattle.std.specs.List.{flat_map}
 use Rattle.std.proofs.lemmas.List.{append-nil, append_assoc, length-append, length-map}
 use Rattle.std.proofs.lemmas.List.Elements.{All-nil, All-cons}
 use Rattle.std.specs.BTreeSet.{BTreeSet, IsEmpty}
+use Rattle.dwc_base.specs.declared.records.Encoding.{Encoding}
 use Rattle.dwc_rules.specs.Carried.{Module}
 use Rattle.dwc_dwarf.specs.ReadUnits.{units}
 use Rattle.dwc_rules.specs.Refusals.{Refusal}
@@ -36,23 +37,23 @@ use Rattle.dwc_carry.proofs.RefusalLaws.{first-behind, no-first, reading-more, u
 
 -- Units are added that are made for a module, whose units are read to their ends, and that are to say its trees; the table of texts has
 -- grown. The pointer to the module's context has its number in its synthetic unit, the first of them.
-pub record AddsModule (size : ℕ) (big_endian : Bool) (m : Module) (old new : List GivenUnit) (before after : List (List ℕ)) : Type 0 where
+pub record AddsModule (encoding : Encoding) (big_endian : Bool) (m : Module) (old new : List GivenUnit) (before after : List (List ℕ)) : Type 0 where
   pub made : List GivenUnit
   pub added : new ≡ old ++ made
   pub grows : Grows before after
   pub counted : length made ≡ unit_count m
-  pub each : (at : ℕ → ℕ → Option (ℕ × ℕ)) → LeadsTo at (length old) made → AreMadeOf at size after (length old) (flat_map wanted_units_of (m ∷ [])) (trees_from (length old) (map (module_drafts big_endian) (m ∷ []))) made
+  pub each : (at : ℕ → ℕ → Option (ℕ × ℕ)) → LeadsTo at (length old) made → AreMadeOf at encoding after (length old) (flat_map wanted_units_of (m ∷ [])) (trees_from (length old) (map (module_drafts big_endian) (m ∷ []))) made
   pub context : (at : ℕ → ℕ → Option (ℕ × ℕ)) → LeadsTo at (length old) made → at (length old) (place_of_context_pointer m.told.memory) ≡ Some (length old, place_of_context_pointer m.told.memory)
   pub whole : (units m.sections).fault ≡ None
 
-module _ (size : ℕ) (big_endian : Bool) where
+module _ (encoding : Encoding) (big_endian : Bool) where
   -- the trees of modules, of which the first unit has a number
   abbrev trees_of : ℕ → List Module → List Tree
   trees_of number ms = trees_from number (map (module_drafts big_endian) ms)
 
   -- units are made as they are wanted for modules
   abbrev AreMadeOfAll : (ℕ → ℕ → Option (ℕ × ℕ)) → List (List ℕ) → ℕ → List Module → List GivenUnit → Type 0
-  AreMadeOfAll at texts number ms us = AreMadeOf at size texts number (flat_map wanted_units_of ms) (trees_of number ms) us
+  AreMadeOfAll at texts number ms us = AreMadeOf at encoding texts number (flat_map wanted_units_of ms) (trees_of number ms) us
 
   -- the trees of a module
   abbrev trees_of_module : ℕ → Module → List Tree
@@ -64,13 +65,13 @@ module _ (size : ℕ) (big_endian : Bool) where
   module-more at texts number next m rest us vs is h k =
       let drafts = units_drafted (module_drafts big_endian m) in
       let settled = settled_unit (place_of_goal number (module_drafts big_endian m)) in
-      let one : AreMadeOf at size texts number (wanted_units_of m) (trees_of_module number m) us =
-      subst (λ cs. AreMadeOf at size texts number cs (trees_of_module number m) us) (append-nil (wanted_units_of m))
-      (subst (λ ts. AreMadeOf at size texts number (wanted_units_of m ++ []) ts us) (append-nil (trees_of_module number m)) h) in
-      let counted : length drafts ≡ length us = sym (length-map drafts settled) ∙ made-length at size texts number (wanted_units_of m) (trees_of_module number m) us one in
+      let one : AreMadeOf at encoding texts number (wanted_units_of m) (trees_of_module number m) us =
+      subst (λ cs. AreMadeOf at encoding texts number cs (trees_of_module number m) us) (append-nil (wanted_units_of m))
+      (subst (λ ts. AreMadeOf at encoding texts number (wanted_units_of m ++ []) ts us) (append-nil (trees_of_module number m)) h) in
+      let counted : length drafts ≡ length us = sym (length-map drafts settled) ∙ made-length at encoding texts number (wanted_units_of m) (trees_of_module number m) us one in
       let same : next ≡ number + length drafts = is ∙ ap (λ n. number + n) (sym counted) in
-      subst (λ n. AreMadeOf at size texts number (flat_map wanted_units_of (m ∷ rest)) (trees_of_module number m ++ trees_of n rest) (us ++ vs)) same
-      (made-both at size texts number next (wanted_units_of m) (flat_map wanted_units_of rest) (trees_of_module number m) (trees_of next rest) us vs is one k)
+      subst (λ n. AreMadeOf at encoding texts number (flat_map wanted_units_of (m ∷ rest)) (trees_of_module number m ++ trees_of n rest) (us ++ vs)) same
+      (made-both at encoding texts number next (wanted_units_of m) (flat_map wanted_units_of rest) (trees_of_module number m) (trees_of next rest) us vs is one k)
 
   module _ (ms : List Module) (old : List GivenUnit) (before : List (List ℕ)) where
     -- What is added so far, and what is to be added for the modules that are left, is all; and the table of texts has grown. So are the
@@ -101,7 +102,7 @@ module _ (size : ℕ) (big_endian : Bool) where
 
     -- a module more
     pub modules-one : (new next : List GivenUnit) (texts grown : List (List ℕ)) (contexts : List DebugInfoRef) (context : DebugInfoRef) (translated later : BTreeSet ℕ) (m : Module) (rest : List Module) → ModulesSoFar new texts contexts translated (m ∷ rest)
-        → (option_map in_reading (first_of (flat_map module_refusals (m ∷ []))) ≡ None) × AddsModule size big_endian m new next texts grown → context ≡ entry_of (length new) (place_of_context_pointer m.told.memory)
+        → (option_map in_reading (first_of (flat_map module_refusals (m ∷ []))) ≡ None) × AddsModule encoding big_endian m new next texts grown → context ≡ entry_of (length new) (place_of_context_pointer m.told.memory)
         → NotesFunctions (begun_in_module m) translated later → ModulesSoFar next grown (contexts ++ context ∷ []) later rest
     modules-one new next texts grown contexts context translated later m rest h (none, a) goes notes =
         let long : length next ≡ length new + length a.made = ap length a.added ∙ length-append new a.made in
@@ -116,7 +117,7 @@ module _ (size : ℕ) (big_endian : Bool) where
               subst (λ us. AreMadeOfAll at after (length old) ms us) (sym (append_assoc h.made a.made more))
               (h.each at after (a.made ++ more) (grows-twice texts grown after a.grows grows) all
               (module-more at after (length new) (length next) m rest a.made more long
-              (made-grown at size grown after (length new) (flat_map wanted_units_of (m ∷ [])) (trees_of (length new) (m ∷ [])) a.made grows (a.each at (here at more all))) k));
+              (made-grown at encoding grown after (length new) (flat_map wanted_units_of (m ∷ [])) (trees_of (length new) (m ∷ [])) a.made grows (a.each at (here at more all))) k));
           whole = λ k. h.whole (All-cons (λ (n : Module). (units n.sections).fault ≡ None) m rest a.whole k);
           accepted = sym (ap (λ xs. xs ++ flat_map module_refusals rest) (none-of m none)) ∙ h.accepted;
           refers = λ more k. subst (ReferToContexts (length old) ms) (sym (append_assoc contexts (context ∷ []) more)) (h.refers (context ∷ more) (goes, subst (λ n. ReferToContexts n rest more) (sym behind) k));
@@ -131,7 +132,7 @@ module _ (size : ℕ) (big_endian : Bool) where
 
     -- behind the last one
     pub modules-done : (new : List GivenUnit) (texts : List (List ℕ)) (carried : CarriedModules) → ModulesSoFar new texts carried.vmctx_ptrs.items carried.translated []
-        → (option_map in_reading (first_of (flat_map module_refusals ms)) ≡ None) × AddsModules size big_endian ms old new before texts carried
+        → (option_map in_reading (first_of (flat_map module_refusals ms)) ≡ None) × AddsModules encoding big_endian ms old new before texts carried
     modules-done new texts carried h = (
       ap (λ (refusals : List Refusal). option_map in_reading (first_of refusals)) (sym h.accepted),
       record {

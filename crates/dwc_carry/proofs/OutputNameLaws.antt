@@ -1,9 +1,10 @@
 -- What is written is sections that an output has, in their order.
-use Rattle.std.proofs.Common.{◌≡◌, ℕ, List, [], ◌∷◌, ◌++◌, Bool, true, false, Option, Some, None, refl, ap, ◌∙◌}
+use Rattle.std.proofs.Common.{◌≡◌, ℕ, List, [], ◌∷◌, ◌++◌, Bool, true, false, Option, Some, None, All, refl, ap, subst, ◌∙◌}
 use Rattle.std.specs.Prelude.{map, if◌then◌else◌}
 use Rattle.std.specs.List.{flat_map}
 use Rattle.std.specs.Str.{bytes_eq}
 use Rattle.std.proofs.lemmas.List.{append_assoc}
+use Rattle.std.proofs.lemmas.List.Elements.{All-head}
 use Rattle.dwc_base.specs.declared.records.Endian.{Endian}
 use Rattle.dwc_base.specs.declared.section_name.SectionName.{SectionName}
 use Rattle.dwc_base.specs.declared.section_name.SectionName.TheVariants.{Abbrev, Frame, Info, Line, LineStr, Loc, Loclists, Ranges, Rnglists, Str}
@@ -125,6 +126,22 @@ units-in_order order texts us frames last =
     (info_relocations order size 0 (units_placed order places us)) (lines_relocations order size 0 (written_tables places us)) (all_lists_relocations ranges_in order us) (all_lists_relocations locations_in order us) frames last
     (is_old version) (λ old. ap (λ b. texts_ended (if b then [] else each_once (flat_map (names_of_unit texts) us))) old)
 
-pub written-of_output : (order : Endian) (texts : List (List ℕ)) (us : List GivenUnit) (table : Option FrameTable) → are_of_output (version_of (map ordered us)) (spelled_sections order texts (map ordered us) ++ given_frames order table us) ≡ true
-written-of_output order texts us table =
-    units-in_order order texts (map ordered us) (given_frames order table us) (frames-in_order order (size_of (map ordered us)) (common_given table) (descriptions_given table))
+-- what has the name of frames stands behind any names
+behind-names : (names : List SectionName) (frames : List OutputSection) → stand_in_order (Frame ∷ []) frames ≡ true → stand_in_order (names ++ Frame ∷ []) frames ≡ true
+behind-names [] frames last = last
+behind-names (name ∷ names) frames last = weaker-by name (names ++ Frame ∷ []) frames (less (names ++ Frame ∷ [])) (behind-names names frames last)
+
+-- so it is of an output of any version where it stands alone
+alone-in_order : (version : ℕ) (frames : List OutputSection) → stand_in_order (Frame ∷ []) frames ≡ true → are_of_output version frames ≡ true
+alone-in_order version frames last = go (is_old version)
+  where
+    go : (old : Bool) → stand_in_order (if old then Abbrev ∷ Info ∷ Line ∷ Ranges ∷ Loc ∷ Str ∷ Frame ∷ [] else Abbrev ∷ Info ∷ Line ∷ LineStr ∷ Rnglists ∷ Loclists ∷ Str ∷ Frame ∷ []) frames ≡ true
+    go true = behind-names (Abbrev ∷ Info ∷ Line ∷ Ranges ∷ Loc ∷ Str ∷ []) frames last
+    go false = behind-names (Abbrev ∷ Info ∷ Line ∷ LineStr ∷ Rnglists ∷ Loclists ∷ Str ∷ []) frames last
+
+-- What is written of units of a version is sections that an output of that version has.
+pub written-of_output : (version : ℕ) (order : Endian) (texts : List (List ℕ)) (us : List GivenUnit) (table : Option FrameTable) → All (λ u. u.version ≡ version) us → are_of_output version (spelled_sections order texts (map ordered us) ++ given_frames order table us) ≡ true
+written-of_output version order texts [] table same = alone-in_order version (given_frames order table []) (frames-in_order order (size_of []) (common_given table) (descriptions_given table))
+written-of_output version order texts (u ∷ us) table same =
+    subst (λ n. are_of_output n (spelled_sections order texts (map ordered (u ∷ us)) ++ given_frames order table (u ∷ us)) ≡ true) (All-head (λ (v : GivenUnit). v.version ≡ version) u us same)
+    (units-in_order order texts (map ordered (u ∷ us)) (given_frames order table (u ∷ us)) (frames-in_order order (size_of (map ordered (u ∷ us))) (common_given table) (descriptions_given table)))

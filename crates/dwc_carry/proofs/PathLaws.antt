@@ -63,18 +63,18 @@ name-fits path plain named = record {
 
 -- ---- of a compilation
 
-file-from : (ts : List ModuleTranslation) (fss : List (List Compiled)) (told : List ToldModule) (t : ModuleTranslation) (m : Module) (ms : List Module) → t ≡ get_or ts 0 t → modules_from 0 ts fss told ≡ m ∷ ms → m.file ≡ told_file t
-file-from [] fss told t m ms at h = absurd (cc)
-file-from (x ∷ ts) [] told t m ms at h = absurd (cc)
-file-from (x ∷ ts) (fs ∷ fss) [] t m ms at h = absurd (cc)
-file-from (x ∷ ts) (fs ∷ fss) (y ∷ told) t m ms at h = sym (ap (λ (n : Module). n.file) (head h)) ∙ ap told_file (sym at)
+file-from : (version : ℕ) (ts : List ModuleTranslation) (fss : List (List Compiled)) (told : List ToldModule) (t : ModuleTranslation) (m : Module) (ms : List Module) → t ≡ get_or ts 0 t → modules_from version 0 ts fss told ≡ m ∷ ms → m.file ≡ told_file t
+file-from version [] fss told t m ms at h = absurd (cc)
+file-from version (x ∷ ts) [] told t m ms at h = absurd (cc)
+file-from version (x ∷ ts) (fs ∷ fss) [] t m ms at h = absurd (cc)
+file-from version (x ∷ ts) (fs ∷ fss) (y ∷ told) t m ms at h = sym (ap (λ (n : Module). n.file) (head h)) ∙ ap told_file (sym at)
   where
-    head : Rattle.dwc_carry.specs.Inputs.module_view 0 x fs y ∷ modules_from (0 + length fs) ts fss told ≡ m ∷ ms → Rattle.dwc_carry.specs.Inputs.module_view 0 x fs y ≡ m
+    head : Rattle.dwc_carry.specs.Inputs.module_view version 0 x fs y ∷ modules_from version (0 + length fs) ts fss told ≡ m ∷ ms → Rattle.dwc_carry.specs.Inputs.module_view version 0 x fs y ≡ m
     head e = cc
 
 -- the file of the first module is the first one
 pub first-file : (registers : Registers) (c : CompilationValue) (t : ModuleTranslation) (m : Module) (ms : List Module) → t ≡ get_or c.translations 0 t → modules_of registers c ≡ m ∷ ms → m.file ≡ told_file t
-first-file registers c t m ms at h = file-from c.translations c.functions (told_from registers (names_of c) 0 0 c.functions c.memory_offsets) t m ms at h
+first-file registers c t m ms at h = file-from c.tunables.dwarf_version c.translations c.functions (told_from registers (names_of c) 0 0 c.functions c.memory_offsets) t m ms at h
 
 -- a list of modules that has a first one
 pub record HasFirst (xs : List Module) : Type 0 where
@@ -82,17 +82,17 @@ pub record HasFirst (xs : List Module) : Type 0 where
   pub ms : List Module
   pub is : xs ≡ m ∷ ms
 
-first-from : (ts : List ModuleTranslation) (fss : List (List Compiled)) (told : List ToldModule) → length fss ≡ length ts → length told ≡ length ts → 0 < length ts → HasFirst (modules_from 0 ts fss told)
-first-from [] fss told same counted some = absurd (omega (arith, some))
-first-from (t ∷ ts) [] told same counted some = absurd (omega (arith, same))
-first-from (t ∷ ts) (fs ∷ fss) [] same counted some = absurd (omega (arith, counted))
-first-from (t ∷ ts) (fs ∷ fss) (x ∷ told) same counted some = record { m = Rattle.dwc_carry.specs.Inputs.module_view 0 t fs x; ms = modules_from (0 + length fs) ts fss told; is = refl }
+first-from : (version : ℕ) (ts : List ModuleTranslation) (fss : List (List Compiled)) (told : List ToldModule) → length fss ≡ length ts → length told ≡ length ts → 0 < length ts → HasFirst (modules_from version 0 ts fss told)
+first-from version [] fss told same counted some = absurd (omega (arith, some))
+first-from version (t ∷ ts) [] told same counted some = absurd (omega (arith, same))
+first-from version (t ∷ ts) (fs ∷ fss) [] same counted some = absurd (omega (arith, counted))
+first-from version (t ∷ ts) (fs ∷ fss) (x ∷ told) same counted some = record { m = Rattle.dwc_carry.specs.Inputs.module_view version 0 t fs x; ms = modules_from version (0 + length fs) ts fss told; is = refl }
 
 -- There is a module where there is a translation.
 pub has-first : (registers : Registers) (c : CompilationValue) → IsCounted c.translations c.functions c.memory_offsets → 0 < length c.translations → HasFirst (modules_of registers c)
 has-first registers c counted some =
     let same = counted-length c.translations c.functions c.memory_offsets counted in
-    first-from c.translations c.functions (told_from registers (names_of c) 0 0 c.functions c.memory_offsets) same
+    first-from c.tunables.dwarf_version c.translations c.functions (told_from registers (names_of c) 0 0 c.functions c.memory_offsets) same
     (told-length registers (names_of c) 0 0 c.functions c.memory_offsets (counted.offsets_given ∙ sym same) ∙ same) some
 
 module _ (c : CompilationValue) (t : ModuleTranslation) (u : UnitPath) (at : t ≡ get_or c.translations 0 t) (of : IsUnitPath t c.next_id u) where

@@ -28,7 +28,7 @@ use Rattle.dwc_unit.specs.Renumbered.{place_at}
 use Rattle.dwc_carried.specs.ContextsCarried.{ContextsCarried}
 use Rattle.dwc_carried.proofs.ContextForest.{made-contexts}
 use Rattle.dwc_carry.specs.MadeUnits.{AreMadeOf}
-use Rattle.dwc_carry.specs.Inputs.{names_of, module_view, modules_from, told_from, input_of, bad_map_from, bad_map, maps_refusal, refusal_of}
+use Rattle.dwc_carry.specs.Inputs.{encoding_of, names_of, module_view, modules_from, told_from, input_of, bad_map_from, bad_map, maps_refusal, refusal_of}
 use Rattle.dwc_carry.proofs.CompositionLaws.{made-trees}
 use Rattle.dwc_carry.proofs.SimulatedUnitLocations.{simulated_unit-located}
 use Rattle.dwc_carry.proofs.RefusalLaws.{unmapped}
@@ -45,47 +45,47 @@ neither None b h = (refl, h)
 neither (Some x) b h = absurd (cc)
 
 module _ (number_maps : MapsNumber) where
-  modules-numbered : (place number : ℕ) (ts : List ModuleTranslation) (fss : List (List Compiled)) (told : List ToldModule) → bad_map_from place ts fss ≡ None → All HasNumbers (modules_from number ts fss told)
-  modules-numbered place number [] fss told h = All-nil HasNumbers
-  modules-numbered place number (t ∷ ts) [] told h = All-nil HasNumbers
-  modules-numbered place number (t ∷ ts) (fs ∷ fss) [] h = All-nil HasNumbers
-  modules-numbered place number (t ∷ ts) (fs ∷ fss) (m ∷ told) h =
+  modules-numbered : (version place number : ℕ) (ts : List ModuleTranslation) (fss : List (List Compiled)) (told : List ToldModule) → bad_map_from place ts fss ≡ None → All HasNumbers (modules_from version number ts fss told)
+  modules-numbered version place number [] fss told h = All-nil HasNumbers
+  modules-numbered version place number (t ∷ ts) [] told h = All-nil HasNumbers
+  modules-numbered version place number (t ∷ ts) (fs ∷ fss) [] h = All-nil HasNumbers
+  modules-numbered version place number (t ∷ ts) (fs ∷ fss) (m ∷ told) h =
       let maps = map address_map_view fs in
       let both = neither (option_map (λ bad. (place, bad)) (first_bad_map t.code_section_offset 0 maps)) (bad_map_from (suc place) ts fss) h in
-      All-cons HasNumbers (module_view number t fs m) (modules_from (number + length fs) ts fss told) (number_maps t.code_section_offset number maps (unmapped (λ bad. (place, bad)) (first_bad_map t.code_section_offset 0 maps) both.0))
-      (modules-numbered (suc place) (number + length fs) ts fss told both.1)
+      All-cons HasNumbers (module_view version number t fs m) (modules_from version (number + length fs) ts fss told) (number_maps t.code_section_offset number maps (unmapped (λ bad. (place, bad)) (first_bad_map t.code_section_offset 0 maps) both.0))
+      (modules-numbered version (suc place) (number + length fs) ts fss told both.1)
 
   -- The units say the trees of an input of which nothing is refused, and so carry its scopes.
   pub scopes-carried : (order : Endian) (size : ℕ) (registers : Registers) (entry : Option CommonEntry) (c : CompilationValue) (texts : List (List ℕ)) (us : List GivenUnit) → refusal_of order size registers entry c ≡ None
-      → AreMadeOf (place_at us) size texts 0 (wanted_units (input_of order size registers entry c)) (trees_made (input_of order size registers entry c)) us → ((fs : List Function) → TranslationsKeepScopes fs)
+      → AreMadeOf (place_at us) (encoding_of (input_of order size registers entry c)) texts 0 (wanted_units (input_of order size registers entry c)) (trees_made (input_of order size registers entry c)) us → ((fs : List Function) → TranslationsKeepScopes fs)
       → ScopesCarried (drafts_of (is_big order)) (wanted_units (input_of order size registers entry c)) (given_trees texts (map ordered us))
   scopes-carried order size registers entry c texts us accepted made keep =
       let input = input_of order size registers entry c in
       let good : bad_map c ≡ None = unmapped _ (bad_map c) (neither (maps_refusal c) (option_map in_reading (first_refusal input)) accepted).0 in
-      subst (ScopesCarried (drafts_of (is_big order)) (wanted_units input)) (sym (made-trees size texts (wanted_units input) (trees_made input) us made))
-      (made-scopes input (modules-numbered 0 0 c.translations c.functions (told_from registers (names_of c) 0 0 c.functions c.memory_offsets) good) keep)
+      subst (ScopesCarried (drafts_of (is_big order)) (wanted_units input)) (sym (made-trees (encoding_of input) texts (wanted_units input) (trees_made input) us made))
+      (made-scopes input (modules-numbered c.tunables.dwarf_version 0 0 c.translations c.functions (told_from registers (names_of c) 0 0 c.functions c.memory_offsets) good) keep)
 
   -- And so they carry its locations.
   pub locations-carried : (order : Endian) (size : ℕ) (registers : Registers) (entry : Option CommonEntry) (c : CompilationValue) (texts : List (List ℕ)) (us : List GivenUnit) → refusal_of order size registers entry c ≡ None
-      → AreMadeOf (place_at us) size texts 0 (wanted_units (input_of order size registers entry c)) (trees_made (input_of order size registers entry c)) us → ((fs : List Function) → TranslationsKeepScopes fs)
+      → AreMadeOf (place_at us) (encoding_of (input_of order size registers entry c)) texts 0 (wanted_units (input_of order size registers entry c)) (trees_made (input_of order size registers entry c)) us → ((fs : List Function) → TranslationsKeepScopes fs)
       → LocationsCarried (drafts_of (is_big order)) (wanted_units (input_of order size registers entry c)) (given_trees texts (map ordered us))
   locations-carried order size registers entry c texts us accepted made keep =
       let input = input_of order size registers entry c in
       let both = neither (maps_refusal c) (option_map in_reading (first_refusal input)) accepted in
       let good : bad_map c ≡ None = unmapped _ (bad_map c) both.0 in
       let read : first_refusal input ≡ None = unmapped in_reading (first_refusal input) both.1 in
-      let numbered = modules-numbered 0 0 c.translations c.functions (told_from registers (names_of c) 0 0 c.functions c.memory_offsets) good in
-      subst (LocationsCarried (drafts_of (is_big order)) (wanted_units input)) (sym (made-trees size texts (wanted_units input) (trees_made input) us made))
+      let numbered = modules-numbered c.tunables.dwarf_version 0 0 c.translations c.functions (told_from registers (names_of c) 0 0 c.functions c.memory_offsets) good in
+      subst (LocationsCarried (drafts_of (is_big order)) (wanted_units input)) (sym (made-trees (encoding_of input) texts (wanted_units input) (trees_made input) us made))
       (made-locations input numbered keep read (simulated_unit-located (drafts_of (is_big order)) input numbered keep read))
 
   -- And so the variables of its functions' contexts stand where they are to.
   pub contexts-carried : (order : Endian) (size : ℕ) (registers : Registers) (entry : Option CommonEntry) (c : CompilationValue) (texts : List (List ℕ)) (us : List GivenUnit) → refusal_of order size registers entry c ≡ None
-      → AreMadeOf (place_at us) size texts 0 (wanted_units (input_of order size registers entry c)) (trees_made (input_of order size registers entry c)) us → ((fs : List Function) → TranslationsKeepScopes fs)
+      → AreMadeOf (place_at us) (encoding_of (input_of order size registers entry c)) texts 0 (wanted_units (input_of order size registers entry c)) (trees_made (input_of order size registers entry c)) us → ((fs : List Function) → TranslationsKeepScopes fs)
       → ContextsCarried (drafts_of (is_big order)) (wanted_units (input_of order size registers entry c)) (given_trees texts (map ordered us))
   contexts-carried order size registers entry c texts us accepted made keep =
       let input = input_of order size registers entry c in
       let both = neither (maps_refusal c) (option_map in_reading (first_refusal input)) accepted in
       let good : bad_map c ≡ None = unmapped _ (bad_map c) both.0 in
       let read : first_refusal input ≡ None = unmapped in_reading (first_refusal input) both.1 in
-      subst (ContextsCarried (drafts_of (is_big order)) (wanted_units input)) (sym (made-trees size texts (wanted_units input) (trees_made input) us made))
-      (made-contexts input (modules-numbered 0 0 c.translations c.functions (told_from registers (names_of c) 0 0 c.functions c.memory_offsets) good) keep read)
+      subst (ContextsCarried (drafts_of (is_big order)) (wanted_units input)) (sym (made-trees (encoding_of input) texts (wanted_units input) (trees_made input) us made))
+      (made-contexts input (modules-numbered c.tunables.dwarf_version 0 0 c.translations c.functions (told_from registers (names_of c) 0 0 c.functions c.memory_offsets) good) keep read)

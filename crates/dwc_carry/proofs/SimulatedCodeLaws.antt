@@ -44,23 +44,23 @@ module-left translated code_offset place (f ∷ fs) = go (is_simulated translate
     go true more = ap (λ (xs : List (ℕ × Function)). (code_offset, f) ∷ xs) more
     go false more = more
 
-modules-left : (translated : ℕ → Bool) (number : ℕ) (ts : List ModuleTranslation) (fss : List (List Compiled)) (told : List ToldModule) → length fss ≡ length ts → length told ≡ length ts
-    → left_in translated ts (functions_from number ts fss) ≡ simulated_in_files translated (modules_from number ts fss told)
+modules-left : (translated : ℕ → Bool) (version number : ℕ) (ts : List ModuleTranslation) (fss : List (List Compiled)) (told : List ToldModule) → length fss ≡ length ts → length told ≡ length ts
+    → left_in translated ts (functions_from number ts fss) ≡ simulated_in_files translated (modules_from version number ts fss told)
 unfolding simulated_functions
-modules-left translated number [] fss told same counted = refl
-modules-left translated number (t ∷ ts) [] told same counted = absurd (omega (arith, same))
-modules-left translated number (t ∷ ts) (fs ∷ fss) [] same counted = absurd (omega (arith, counted))
-modules-left translated number (t ∷ ts) (fs ∷ fss) (x ∷ told) same counted =
+modules-left translated version number [] fss told same counted = refl
+modules-left translated version number (t ∷ ts) [] told same counted = absurd (omega (arith, same))
+modules-left translated version number (t ∷ ts) (fs ∷ fss) [] same counted = absurd (omega (arith, counted))
+modules-left translated version number (t ∷ ts) (fs ∷ fss) (x ∷ told) same counted =
     ap₂ (λ (xs ys : List (ℕ × Function)). xs ++ ys)
     (module-left translated t.code_section_offset 0 (functions_of t.code_section_offset number (map address_map_view fs)))
-    (modules-left translated (number + length fs) ts fss told (omega (arith, same)) (omega (arith, counted)))
+    (modules-left translated version (number + length fs) ts fss told (omega (arith, same)) (omega (arith, counted)))
 
 -- The functions that are left by the translated numbers are the simulated ones.
 pub all-left : (registers : Registers) (c : CompilationValue) (translated : ℕ → Bool) → IsCounted c.translations c.functions c.memory_offsets
     → left_in translated c.translations (functions_from 0 c.translations c.functions) ≡ simulated_in_files translated (modules_of registers c)
 all-left registers c translated counted =
     let same = counted-length c.translations c.functions c.memory_offsets counted in
-    modules-left translated 0 c.translations c.functions (told_from registers (names_of c) 0 0 c.functions c.memory_offsets) same
+    modules-left translated c.tunables.dwarf_version 0 c.translations c.functions (told_from registers (names_of c) 0 0 c.functions c.memory_offsets) same
     (told-length registers (names_of c) 0 0 c.functions c.memory_offsets (counted.offsets_given ∙ sym same) ∙ same)
 
 -- ---- their intervals

@@ -3,6 +3,7 @@ use Rattle.std.proofs.Common.{◌≡◌, ℕ, suc, ◌+◌, ◌<◌, arith, refl
 use Rattle.std.specs.Prelude.{is_some}
 use Rattle.std.specs.List.{flat_map}
 use Rattle.std.proofs.lemmas.List.{length-map}
+use Rattle.dwc_base.specs.declared.records.Encoding.{Encoding}
 use Rattle.dwc_rules.specs.Carried.{Module, WantedUnit}
 use Rattle.dwc_rules.specs.DraftForests.{settled_unit}
 use Rattle.dwc_rules.specs.Drafts.{Draft}
@@ -24,11 +25,11 @@ use Rattle.dwc_carry.proofs.SimulatedMoves.{unit-moves}
 
 -- ---- what it begins with
 
-pub begins-root : (size : ℕ) (lines : GivenLines) (t : RootTexts) (list : RangeList) → BeginsWith size lines (simulated_root_addition t list) (root_given 4 size lines t list)
-begins-root size lines t list = record { version_is = refl; size_is = refl; lines_are = refl; others = []; is = refl }
+pub begins-root : (encoding : Encoding) (lines : GivenLines) (t : RootTexts) (list : RangeList) → BeginsWith encoding lines (simulated_root_addition t list) (root_given encoding.version encoding.address_size lines t list)
+begins-root encoding lines t list = record { version_is = refl; size_is = refl; lines_are = refl; others = []; is = refl }
 
-pub begins-more : (size : ℕ) (lines : GivenLines) (root e : Addition) (u : GivenUnit) → BeginsWith size lines root u → BeginsWith size lines root (with_entry e u)
-begins-more size lines root e u begins = record {
+pub begins-more : (encoding : Encoding) (lines : GivenLines) (root e : Addition) (u : GivenUnit) → BeginsWith encoding lines root u → BeginsWith encoding lines root (with_entry e u)
+begins-more encoding lines root e u begins = record {
   version_is = begins.version_is;
   size_is = begins.size_is;
   lines_are = begins.lines_are;
@@ -36,15 +37,15 @@ begins-more size lines root e u begins = record {
   is = ap (λ es. es ++ e ∷ []) begins.is;
 }
 
-pub begins-all : (size : ℕ) (lines : GivenLines) (root : Addition) (es : List Addition) (u : GivenUnit) → BeginsWith size lines root u → BeginsWith size lines root (with_additions es u)
-begins-all size lines root [] u begins = begins
-begins-all size lines root (e ∷ es) u begins = begins-all size lines root es (with_entry e u) (begins-more size lines root e u begins)
+pub begins-all : (encoding : Encoding) (lines : GivenLines) (root : Addition) (es : List Addition) (u : GivenUnit) → BeginsWith encoding lines root u → BeginsWith encoding lines root (with_additions es u)
+begins-all encoding lines root [] u begins = begins
+begins-all encoding lines root (e ∷ es) u begins = begins-all encoding lines root es (with_entry e u) (begins-more encoding lines root e u begins)
 
 -- ---- the whole
 
 -- It can be written, where its line program is ended.
-pub writable : (size : ℕ) (lines : GivenLines) (t : RootTexts) (list : RangeList) (u : GivenUnit) → lines.begun ≡ None → lines.address_size ≡ Some size → BeginsWith size lines (simulated_root_addition t list) u → IsWritable 4 size (ordered u)
-writable size lines t list u ended sized begins = record {
+pub writable : (encoding : Encoding) (lines : GivenLines) (t : RootTexts) (list : RangeList) (u : GivenUnit) → lines.begun ≡ None → lines.address_size ≡ Some encoding.address_size → BeginsWith encoding lines (simulated_root_addition t list) u → IsWritable encoding.version encoding.address_size (ordered u)
+writable encoding lines t list u ended sized begins = record {
   version = begins.version_is;
   size = begins.size_is;
   ended = ap (λ (l : GivenLines). l.begun) begins.lines_are ∙ ended;
@@ -52,9 +53,9 @@ writable size lines t list u ended sized begins = record {
 }
 
 -- A unit that is made of drafts says others, where they are these with numbers put to places.
-pub simulated-made : (at : ℕ → ℕ → Option (ℕ × ℕ)) (size : ℕ) (table : List (List ℕ)) (number : ℕ) (w : WantedUnit) (ds es : List Draft) (u : GivenUnit) → HasWantedLines w u → IsSimulated number table ds u
-    → map (renumbered_entry at) (settled_unit (λ goal. None) ds) ≡ settled_unit (λ goal. None) es → IsWritable 4 size (ordered u) → IsMadeOf at size table number w (settled_unit (λ goal. None) es) u
-simulated-made at size table number w ds es u lines so moved can = record {
+pub simulated-made : (at : ℕ → ℕ → Option (ℕ × ℕ)) (encoding : Encoding) (table : List (List ℕ)) (number : ℕ) (w : WantedUnit) (ds es : List Draft) (u : GivenUnit) → HasWantedLines w u → IsSimulated number table ds u
+    → map (renumbered_entry at) (settled_unit (λ goal. None) ds) ≡ settled_unit (λ goal. None) es → IsWritable encoding.version encoding.address_size (ordered u) → IsMadeOf at encoding table number w (settled_unit (λ goal. None) es) u
+simulated-made at encoding table number w ds es u lines so moved can = record {
   has_lines = lines;
   depths = draft_depths ds;
   order = so.drafted.order;
@@ -71,13 +72,13 @@ place-there at number place u leads dense within =
     subst (λ k. at k place ≡ Some (k, place)) counted (leads 0 u refl place place (numbered-place u place dense within))
 
 -- The unit of a path is made as it is wanted.
-pub whole-made : (translated : ℕ → Bool) (at : ℕ → ℕ → Option (ℕ × ℕ)) (size : ℕ) (table : List (List ℕ)) (w : WantedUnit) (path : List ℕ) (number : ℕ) (pointers : List TreeValue) (ms : List Module) (u : GivenUnit) → HasWantedLines w u
-    → IsSimulated number table (simulated_unit translated path number pointers ms) u → LeadsTo at number (u ∷ []) → IsWritable 4 size (ordered u) → IsMadeOf at size table number w (settled_unit (λ goal. None) (simulated_unit translated path number (map (renumbered at) pointers) ms)) u
+pub whole-made : (translated : ℕ → Bool) (at : ℕ → ℕ → Option (ℕ × ℕ)) (encoding : Encoding) (table : List (List ℕ)) (w : WantedUnit) (path : List ℕ) (number : ℕ) (pointers : List TreeValue) (ms : List Module) (u : GivenUnit) → HasWantedLines w u
+    → IsSimulated number table (simulated_unit translated path number pointers ms) u → LeadsTo at number (u ∷ []) → IsWritable encoding.version encoding.address_size (ordered u) → IsMadeOf at encoding table number w (settled_unit (λ goal. None) (simulated_unit translated path number (map (renumbered at) pointers) ms)) u
 unfolding simulated_unit
-whole-made translated at size table w path number pointers ms u lines so leads can =
+whole-made translated at encoding table w path number pointers ms u lines so leads can =
     let order = so.drafted.order in
     let behind = modules_entries translated number pointers ms in
     let root = simulated_root path (flat_map (whole_intervals translated) ms) in
     let counted : length (draft_depths (root ∷ (base_types ++ behind))) ≡ suc (suc (suc (suc (suc (length behind))))) = length-map (root ∷ (base_types ++ behind)) (λ (d : Draft). d.depth) in
     let types : (place : ℕ) → place < 5 → at number place ≡ Some (number, place) = λ place below. place-there at number place u leads so.dense (omega (arith, below, counted, order.counted)) in
-    simulated-made at size table number w (simulated_unit translated path number pointers ms) (simulated_unit translated path number (map (renumbered at) pointers) ms) u lines so (unit-moves at translated path number pointers ms types) can
+    simulated-made at encoding table number w (simulated_unit translated path number pointers ms) (simulated_unit translated path number (map (renumbered at) pointers) ms) u lines so (unit-moves at translated path number pointers ms types) can

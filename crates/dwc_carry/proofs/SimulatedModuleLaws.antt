@@ -3,6 +3,7 @@ use Rattle.std.proofs.Common.{◌≡◌, ℕ, ◌+◌, ◌<◌, ◌≤◌, List,
 use Rattle.std.specs.Prelude.{option_map}
 use Rattle.std.specs.List.{flat_map}
 use Rattle.std.proofs.lemmas.List.{drop_all, drop_more}
+use Rattle.dwc_base.specs.declared.records.Encoding.{Encoding}
 use Rattle.dwc_base.specs.declared.translation.ModuleTranslation.{ModuleTranslation}
 use Rattle.dwc_rules.specs.Carried.{Module}
 use Rattle.dwc_rules.specs.Drafts.{Draft}
@@ -42,7 +43,7 @@ pub record ModulesAdded (translated : ℕ → Bool) (ms : List Module) (refs : L
   pub grows : Grows before texts
   pub dense : IsDense u
   pub some : 0 < length u.additions
-  pub begins : (size : ℕ) (lines : GivenLines) (root : Addition) → BeginsWith size lines root first → BeginsWith size lines root u
+  pub begins : (encoding : Encoding) (lines : GivenLines) (root : Addition) → BeginsWith encoding lines root first → BeginsWith encoding lines root u
   pub entries : (number : ℕ) (whole : List Draft) → HasModules translated number (map reference_meant refs) before whole ms first → ModulesLeft translated number whole ms refs texts u i
 
 module _ (translated : ℕ → Bool) (ms : List Module) (refs : List DebugInfoRef) (before : List (List ℕ)) (first : GivenUnit) where
@@ -51,12 +52,12 @@ module _ (translated : ℕ → Bool) (ms : List Module) (refs : List DebugInfoRe
     grows = grows-same before;
     dense = dense;
     some = some;
-    begins = λ size lines root h. h;
+    begins = λ encoding lines root h. h;
     entries = λ number whole h. record { has = h; accepted = refl };
   }
 
-  module _ (registers : Registers) (texts : List (List ℕ)) (u : GivenUnit) (i : ℕ) (h : ModulesAdded translated ms refs before first texts u i) (t : ModuleTranslation) (fs : List Function) (compiled : CompiledModule) (r : DebugInfoRef) (m : Module)
-      (made : m ≡ transformed_module t fs (told_by registers compiled)) (frames : HasFrames compiled fs) (left : drop i ms ≡ m ∷ drop (i + 1) ms)
+  module _ (registers : Registers) (version : ℕ) (texts : List (List ℕ)) (u : GivenUnit) (i : ℕ) (h : ModulesAdded translated ms refs before first texts u i) (t : ModuleTranslation) (fs : List Function) (compiled : CompiledModule) (r : DebugInfoRef) (m : Module)
+      (made : m ≡ transformed_module version t fs (told_by registers compiled)) (frames : HasFrames compiled fs) (left : drop i ms ≡ m ∷ drop (i + 1) ms)
       (inside : i < length refs) (at : r ≡ get_or refs i r) where
     -- the types of pointers to the contexts of those behind it
     abbrev others : List TreeValue
@@ -103,14 +104,14 @@ module _ (translated : ℕ → Bool) (ms : List Module) (refs : List DebugInfoRe
 
     -- A module more.
     pub added-more : (after : List (List ℕ)) (v : GivenUnit) → Grows texts after → IsDense v → 0 < length v.additions
-        → ((size : ℕ) (lines : GivenLines) (root : Addition) → BeginsWith size lines root u → BeginsWith size lines root v)
+        → ((encoding : Encoding) (lines : GivenLines) (root : Addition) → BeginsWith encoding lines root u → BeginsWith encoding lines root v)
         → AddsModule registers translated t fs compiled r texts after u v (Ok tt)
         → ModulesAdded translated ms refs before first after v (i + 1)
     added-more after v grows dense some begins gives = record {
       grows = grows-twice before texts after h.grows grows;
       dense = dense;
       some = some;
-      begins = λ size lines root is. begins size lines root (h.begins size lines root is);
+      begins = λ encoding lines root is. begins encoding lines root (h.begins encoding lines root is);
       entries = λ number whole is.
           let k = h.entries number whole is in
           next-done number whole k after v (gives m number (behind number whole k) whole simulated-next (next-begun number whole k));

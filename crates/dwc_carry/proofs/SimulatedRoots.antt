@@ -3,6 +3,7 @@ use Rattle.std.proofs.Common.{◌≡◌, ℕ, ◌<◌, refl, arith, List, [], �
 use Rattle.std.specs.Prelude.{codes}
 use Rattle.std.specs.List.{AllZip}
 use Rattle.std.proofs.lemmas.List.Elements.{All-nil, All-cons}
+use Rattle.dwc_base.specs.declared.records.Encoding.{Encoding}
 use Rattle.dwc_carried.specs.SimulatedUnit.{simulated_root}
 use Rattle.dwc_dwarf.specs.Trees.{Interval}
 use Rattle.dwc_carried.specs.UnitPaths.{path_directory, path_name}
@@ -40,11 +41,11 @@ module _ (texts : List (List ℕ)) (path : List ℕ) (t : RootTexts) (known : Al
       (All-nil HasTexts)
 
   -- A root with a list of the intervals of code.
-  pub root-simulated : (number size : ℕ) (lines : GivenLines) (list : RangeList) (whole : List Interval) → map interval_of list.ranges.items ≡ whole → IsSimulated number texts (simulated_root path whole ∷ []) (root_given 4 size lines t list)
-  root-simulated number size lines list whole is = record {
+  pub root-simulated : (number : ℕ) (encoding : Encoding) (lines : GivenLines) (list : RangeList) (whole : List Interval) → map interval_of list.ranges.items ≡ whole → IsSimulated number texts (simulated_root path whole ∷ []) (root_given encoding.version encoding.address_size lines t list)
+  root-simulated number encoding lines list whole is = record {
     drafted = record {
       order = record { counted = refl; some = omega arith; root = refl; parents = λ place above within. absurd (omega (arith, above, within)) };
-      leads = numbered-leads (root_given 4 size lines t list) refl;
+      leads = numbered-leads (root_given encoding.version encoding.address_size lines t list) refl;
       numbers = 0 ∷ [];
       numbered = record { counted = refl; places = places; told = (tt, tt) };
       says = rw (producer.is, name.is, directory.is, is) refl;

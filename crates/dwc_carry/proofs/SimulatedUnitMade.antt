@@ -5,17 +5,20 @@ use Rattle.std.specs.List.{AllZip}
 use Rattle.std.proofs.lemmas.List.{append-nil, length-map}
 use Rattle.std.proofs.lemmas.List.Elements.{All-weaker}
 use Rattle.std.proofs.lemmas.List.Sums.{sum_by-cons}
+use Rattle.dwc_base.specs.declared.records.Encoding.{Encoding}
 use Rattle.dwc_base.specs.declared.translation.ModuleTranslation.{ModuleTranslation}
 use Rattle.dwc_rules.specs.Carried.{Module, unit_of_simulated}
 use Rattle.dwc_rules.specs.DraftForests.{settled_unit}
 use Rattle.dwc_native.specs.Functions.{Function, Recorded, recorded_sources}
 use Rattle.dwc_carried.specs.SimulatedUnitRules.{simulated_unit_refusals, simulated_in_files, path_refusals, widest_simulated_lines}
+use Rattle.dwc_carried.specs.WidestVersions.{widest_listed_5}
 use Rattle.dwc_rules.specs.Refusals.{Refusal, bad_path}
 use Rattle.dwc_base.specs.Listing.{first_of}
 use Rattle.dwc_output.specs.SimulatedLines as Lines
 use Rattle.dwc_carried.specs.SimulatedUnit.{base_types, simulated_refusals, simulated_root, simulated_unit}
 use Rattle.dwc_dwarf.specs.Trees.{TreeValue}
 use Rattle.dwc_carried.specs.UnitPaths.{is_file_name, next_id_behind, path_name, unit_path}
+use Rattle.dwc_output.specs.NewWidest.{widest_header_5}
 use Rattle.dwc_output.specs.Widest.{widest_header, widest_image}
 use Rattle.dwc_isa.specs.Registers.{Registers}
 use Rattle.dwc_addr.specs.Compilations.{CompilationValue, IsCounted}
@@ -54,19 +57,19 @@ use Rattle.dwc_carry.proofs.SimulatedSteps.{modules-begun}
 
 -- ---- the root and the types
 
-pub unit-typed : (size : ℕ) (path : List ℕ) (fs : List (ℕ × Function)) (middle after : List (List ℕ)) (t : RootTexts) (types : TypeTexts) (list : RangeList) (u v : GivenUnit) → Grows middle after
+pub unit-typed : (encoding : Encoding) (path : List ℕ) (fs : List (ℕ × Function)) (middle after : List (List ℕ)) (t : RootTexts) (types : TypeTexts) (list : RangeList) (u v : GivenUnit) → Grows middle after
     → AllZip (IsNumbered middle) (root_names path) (root_texts_of t) → AllZip (IsNumbered after) type_names (type_texts_of types) → AreRanges list.ranges.items (intervals_of fs)
-    → u ≡ root_given 4 size (simulated_program size (path_name path) fs) t list → v ≡ with_additions (type_additions types) u → IsTyped size path fs after v
-unit-typed size path fs middle after t types list u v grows named typed ranges root is =
-    let program : GivenLines = simulated_program size (path_name path) fs in
-    let given : GivenUnit = root_given 4 size program t list in
+    → u ≡ root_given encoding.version encoding.address_size (simulated_program encoding.address_size (path_name path) fs) t list → v ≡ with_additions (type_additions types) u → IsTyped encoding path fs after v
+unit-typed encoding path fs middle after t types list u v grows named typed ranges root is =
+    let program : GivenLines = simulated_program encoding.address_size (path_name path) fs in
+    let given : GivenUnit = root_given encoding.version encoding.address_size program t list in
     let whole : v ≡ with_additions (type_additions types) given = is ∙ ap (with_additions (type_additions types)) root in
     let says : (number : ℕ) → IsSimulated number after (simulated_root path (intervals_of fs) ∷ base_types) (with_additions (type_additions types) given) =
-    λ number. types-simulated number middle after (simulated_root path (intervals_of fs)) given types grows (root-simulated middle path t named number size program list (intervals_of fs) ranges.say) typed in
-    subst (IsTyped size path fs after) (sym whole) (record {
+    λ number. types-simulated number middle after (simulated_root path (intervals_of fs)) given types grows (root-simulated middle path t named number encoding program list (intervals_of fs) ranges.say) typed in
+    subst (IsTyped encoding path fs after) (sym whole) (record {
       names = t;
       list = list;
-      begins = begins-all size program (simulated_root_addition t list) (type_additions types) given (begins-root size program t list);
+      begins = begins-all encoding program (simulated_root_addition t list) (type_additions types) given (begins-root encoding program t list);
       dense = (says 0).dense;
       some = omega arith;
       simulated = says;
@@ -93,41 +96,48 @@ widest-same (f ∷ fs) =
     ∙ ap (λ n. widest_of f + n) (widest-same fs)
     ∙ sym (sum_by-cons widest_of f fs)
 
-program-widest : (name : List ℕ) (size : ℕ) (fs : List (ℕ × Function)) → widest_table_for 4 (Some size) (simulated_program size name fs) ≤ widest_simulated_lines name fs
-program-widest name size fs =
-    let header : ℕ = widest_header [] (record { directory = 0; name = name } ∷ []) in
-    subst (λ n. header + n ≤ header + sum_by widest_of fs) (sym (widest-same fs)) (same (header + sum_by widest_of fs))
+-- They are so behind any header.
+images-within : (header : ℕ) (fs : List (ℕ × Function)) → header + sum_by widest_in (map (λ f. simulated_sequence f.0 f.1) fs) ≤ header + sum_by widest_of fs
+images-within header fs = subst (λ n. header + n ≤ header + sum_by widest_of fs) (sym (widest-same fs)) (same (header + sum_by widest_of fs))
   where
     same : (n : ℕ) → n ≤ n
     same n = omega arith
+
+program-widest : (name : List ℕ) (size : ℕ) (fs : List (ℕ × Function)) → widest_table_for 4 (Some size) (simulated_program size name fs) ≤ widest_simulated_lines name fs
+program-widest name size fs = images-within (widest_header [] (record { directory = 0; name = name } ∷ [])) fs
+
+-- In version 5 the header alone is another.
+program-widest-new : (name : List ℕ) (size : ℕ) (fs : List (ℕ × Function)) → widest_table_for 5 (Some size) (simulated_program size name fs) ≤ widest_listed_5 name fs
+program-widest-new name size fs = images-within (widest_header_5 [] (record { directory = 0; name = name } ∷ [])) fs
 
 simulated-lines : (name : List ℕ) (size : ℕ) (fs : List (ℕ × Function)) (u : GivenUnit) → All CanWrite fs → u.lines ≡ simulated_program size name fs → HasSimulatedLines name fs u
 simulated-lines name size fs u fit is = record {
   names = subst (HasNames [] (record { directory = 0; name = name } ∷ [])) (sym is) (record { size = size; sized = refl; directories = refl; files = refl });
   segments = subst (λ (g : GivenLines). AllZip (λ f segment. Lines.IsSimulated name f.0 f.1 segment) fs (given_segments g)) (sym is) (program-simulated name size fs (All-weaker CanWrite (λ f. CanSimulate f.0 f.1) (λ f can. can.lists) fs fit));
   widest = subst (λ (g : GivenLines). widest_table_for 4 g.address_size g ≤ widest_simulated_lines name fs) (sym is) (program-widest name size fs);
+  widest_new = subst (λ (g : GivenLines). widest_table_for 5 g.address_size g ≤ widest_listed_5 name fs) (sym is) (program-widest-new name size fs);
 }
 
 -- ---- the whole unit
 
 -- Behind the root and the types all modules are left.
-pub modules-left : (translated : ℕ → Bool) (size : ℕ) (path : List ℕ) (number : ℕ) (pointers : List TreeValue) (ms : List Module) (fs : List (ℕ × Function)) (texts : List (List ℕ)) (u : GivenUnit) → fs ≡ simulated_in_files translated ms → IsTyped size path fs texts u
+pub modules-left : (translated : ℕ → Bool) (encoding : Encoding) (path : List ℕ) (number : ℕ) (pointers : List TreeValue) (ms : List Module) (fs : List (ℕ × Function)) (texts : List (List ℕ)) (u : GivenUnit) → fs ≡ simulated_in_files translated ms → IsTyped encoding path fs texts u
     → HasModules translated number pointers texts (simulated_unit translated path number pointers ms) ms u
-modules-left translated size path number pointers ms fs texts u is typed =
+modules-left translated encoding path number pointers ms fs texts u is typed =
     modules-begun translated number pointers texts path ms u
     (subst (λ whole. IsSimulated number texts (simulated_root path whole ∷ base_types) u) (ap intervals_of is ∙ all-intervals translated ms) (typed.simulated number))
 
 -- The unit is what it is to be, once their entries are added.
-pub simulated_unit-made : (translated : ℕ → Bool) (size : ℕ) (path : List ℕ) (ms : List Module) (refs : List DebugInfoRef) (fs : List (ℕ × Function)) (before middle after : List (List ℕ)) (u v : GivenUnit) → fs ≡ simulated_in_files translated ms → All CanWrite fs → Grows before middle → Grows middle after
-    → IsTyped size path fs middle u → ((size : ℕ) (lines : GivenLines) (root : Addition) → BeginsWith size lines root u → BeginsWith size lines root v) → ((number : ℕ) → IsSimulated number after (simulated_unit translated path number (map reference_meant refs) ms) v) → IsSimulatedUnit translated size path ms refs before after v
-simulated_unit-made translated size path ms refs fs before middle after u v is fit first second typed begins says =
-    let program : GivenLines = simulated_program size (path_name path) fs in
-    let begun = begins size program (simulated_root_addition typed.names typed.list) typed.begins in
+pub simulated_unit-made : (translated : ℕ → Bool) (encoding : Encoding) (path : List ℕ) (ms : List Module) (refs : List DebugInfoRef) (fs : List (ℕ × Function)) (before middle after : List (List ℕ)) (u v : GivenUnit) → fs ≡ simulated_in_files translated ms → All CanWrite fs → Grows before middle → Grows middle after
+    → IsTyped encoding path fs middle u → ((encoding : Encoding) (lines : GivenLines) (root : Addition) → BeginsWith encoding lines root u → BeginsWith encoding lines root v) → ((number : ℕ) → IsSimulated number after (simulated_unit translated path number (map reference_meant refs) ms) v) → IsSimulatedUnit translated encoding path ms refs before after v
+simulated_unit-made translated encoding path ms refs fs before middle after u v is fit first second typed begins says =
+    let program : GivenLines = simulated_program encoding.address_size (path_name path) fs in
+    let begun = begins encoding program (simulated_root_addition typed.names typed.list) typed.begins in
     record {
       grows = grows-twice before middle after first second;
-      lines = subst (λ gs. HasSimulatedLines (path_name path) gs v) is (simulated-lines (path_name path) size fs v fit begun.lines_are);
+      lines = subst (λ gs. HasSimulatedLines (path_name path) gs v) is (simulated-lines (path_name path) encoding.address_size fs v fit begun.lines_are);
       simulated = says;
-      writable = writable size program typed.names typed.list v refl refl begun;
+      writable = writable encoding program typed.names typed.list v refl refl begun;
     }
 
 -- ---- where it is added
@@ -166,14 +176,14 @@ module _ (translated : ℕ → Bool) (next_id : ℕ) (m : Module) (ms : List Mod
   refused-of : is_file_name (path_name path) ≡ false → first_of (simulated_unit_refusals translated next_id (m ∷ ms)) ≡ Some bad_path
   refused-of unnamed = ap (λ rs. first_of (rs ++ simulated_refusals translated (m ∷ ms))) (path-refusals next_id m ms false (named-so false unnamed))
 
-  added-of : (size : ℕ) (refs : List DebugInfoRef) (old new : List GivenUnit) (before after : List (List ℕ)) (u : GivenUnit) → new ≡ old ++ u ∷ [] → IsSimulatedUnit translated size path (m ∷ ms) refs before after u → AddsSimulatedUnit translated size next_id (m ∷ ms) refs old new before after
-  added-of size refs old new before after u added last = record {
+  added-of : (encoding : Encoding) (refs : List DebugInfoRef) (old new : List GivenUnit) (before after : List (List ℕ)) (u : GivenUnit) → new ≡ old ++ u ∷ [] → IsSimulatedUnit translated encoding path (m ∷ ms) refs before after u → AddsSimulatedUnit translated encoding next_id (m ∷ ms) refs old new before after
+  added-of encoding refs old new before after u added last = record {
     made = u ∷ [];
     added = added;
     grows = last.grows;
     each = λ at leads. (
-      subst (λ p. IsMadeOf at size after (length old) (unit_of_simulated (path_name p) translated (m ∷ ms)) (settled_unit (λ goal. None) (simulated_unit translated p (length old) (referred at refs) (m ∷ ms))) u) of
-          (whole-made translated at size after (unit_of_simulated (path_name path) translated (m ∷ ms)) path (length old) (map reference_meant refs) (m ∷ ms) u last.lines (last.simulated (length old)) leads last.writable),
+      subst (λ p. IsMadeOf at encoding after (length old) (unit_of_simulated (path_name p) translated (m ∷ ms)) (settled_unit (λ goal. None) (simulated_unit translated p (length old) (referred at refs) (m ∷ ms))) u) of
+          (whole-made translated at encoding after (unit_of_simulated (path_name path) translated (m ∷ ms)) path (length old) (map reference_meant refs) (m ∷ ms) u last.lines (last.simulated (length old)) leads last.writable),
       tt,
     );
   }
@@ -204,13 +214,13 @@ module _ (translated : ℕ → Bool) (registers : Registers) (c : CompilationVal
   unit-refused e named met = subst (λ (rs : List Refusal). RefusesReading (first_of rs) e) (sym (same-refusals named)) met
 
   -- The unit is added.
-  pub last-added : (size : ℕ) (refs : List DebugInfoRef) (old new : List GivenUnit) (before after : List (List ℕ)) (u : GivenUnit) → is_file_name (path_name path) ≡ true → new ≡ old ++ u ∷ []
-      → (option_map in_reading (first_of (simulated_refusals translated modules)) ≡ None) × IsSimulatedUnit translated size path modules refs before after u
-      → (option_map in_reading (first_of (simulated_unit_refusals translated c.next_id modules)) ≡ None) × AddsSimulatedUnit translated size c.next_id modules refs old new before after
-  last-added size refs old new before after u named added (none, last) = (
+  pub last-added : (encoding : Encoding) (refs : List DebugInfoRef) (old new : List GivenUnit) (before after : List (List ℕ)) (u : GivenUnit) → is_file_name (path_name path) ≡ true → new ≡ old ++ u ∷ []
+      → (option_map in_reading (first_of (simulated_refusals translated modules)) ≡ None) × IsSimulatedUnit translated encoding path modules refs before after u
+      → (option_map in_reading (first_of (simulated_unit_refusals translated c.next_id modules)) ≡ None) × AddsSimulatedUnit translated encoding c.next_id modules refs old new before after
+  last-added encoding refs old new before after u named added (none, last) = (
     ap (λ (rs : List Refusal). option_map in_reading (first_of rs)) (same-refusals named) ∙ none,
-    subst (λ xs. AddsSimulatedUnit translated size c.next_id xs refs old new before after) (sym first.is)
-        (added-of translated c.next_id first.m first.ms path of-first size refs old new before after u added (subst (λ xs. IsSimulatedUnit translated size path xs refs before after u) first.is last)),
+    subst (λ xs. AddsSimulatedUnit translated encoding c.next_id xs refs old new before after) (sym first.is)
+        (added-of translated c.next_id first.m first.ms path of-first encoding refs old new before after u added (subst (λ xs. IsSimulatedUnit translated encoding path xs refs before after u) first.is last)),
   )
 
 -- ---- without modules
@@ -218,19 +228,19 @@ module _ (translated : ℕ → Bool) (registers : Registers) (c : CompilationVal
 modules-none : (registers : Registers) (c : CompilationValue) → length c.translations ≡ 0 → modules_of registers c ≡ []
 modules-none registers c none = go c.translations none
   where
-    go : (ts : List ModuleTranslation) → length ts ≡ 0 → modules_from 0 ts c.functions (told_from registers (names_of c) 0 0 c.functions c.memory_offsets) ≡ []
+    go : (ts : List ModuleTranslation) → length ts ≡ 0 → modules_from c.tunables.dwarf_version 0 ts c.functions (told_from registers (names_of c) 0 0 c.functions c.memory_offsets) ≡ []
     go [] none = refl
     go (t ∷ ts) none = absurd (omega (arith, none))
 
-nothing-added : (translated : ℕ → Bool) (size next_id : ℕ) (refs : List DebugInfoRef) (old : List GivenUnit) (before : List (List ℕ)) → (option_map in_reading (first_of (simulated_unit_refusals translated next_id [])) ≡ None) × AddsSimulatedUnit translated size next_id [] refs old old before before
+nothing-added : (translated : ℕ → Bool) (encoding : Encoding) (next_id : ℕ) (refs : List DebugInfoRef) (old : List GivenUnit) (before : List (List ℕ)) → (option_map in_reading (first_of (simulated_unit_refusals translated next_id [])) ≡ None) × AddsSimulatedUnit translated encoding next_id [] refs old old before before
 unfolding simulated_refusals
-nothing-added translated size next_id refs old before = (refl, record { made = []; added = sym (append-nil old); grows = grows-same before; each = λ at leads. tt })
+nothing-added translated encoding next_id refs old before = (refl, record { made = []; added = sym (append-nil old); grows = grows-same before; each = λ at leads. tt })
 
 -- Nothing is added.
-pub none-added : (translated : ℕ → Bool) (registers : Registers) (c : CompilationValue) (size : ℕ) (refs : List DebugInfoRef) (old : List GivenUnit) (before : List (List ℕ)) → length c.translations ≡ 0
-    → (option_map in_reading (first_of (simulated_unit_refusals translated c.next_id (modules_of registers c))) ≡ None) × AddsSimulatedUnit translated size c.next_id (modules_of registers c) refs old old before before
-none-added translated registers c size refs old before none =
-    subst (λ xs. (option_map in_reading (first_of (simulated_unit_refusals translated c.next_id xs)) ≡ None) × AddsSimulatedUnit translated size c.next_id xs refs old old before before) (sym (modules-none registers c none)) (nothing-added translated size c.next_id refs old before)
+pub none-added : (translated : ℕ → Bool) (registers : Registers) (c : CompilationValue) (encoding : Encoding) (refs : List DebugInfoRef) (old : List GivenUnit) (before : List (List ℕ)) → length c.translations ≡ 0
+    → (option_map in_reading (first_of (simulated_unit_refusals translated c.next_id (modules_of registers c))) ≡ None) × AddsSimulatedUnit translated encoding c.next_id (modules_of registers c) refs old old before before
+none-added translated registers c encoding refs old before none =
+    subst (λ xs. (option_map in_reading (first_of (simulated_unit_refusals translated c.next_id xs)) ≡ None) × AddsSimulatedUnit translated encoding c.next_id xs refs old old before before) (sym (modules-none registers c none)) (nothing-added translated encoding c.next_id refs old before)
 
 -- The counter stays as it is.
 pub none-counted : (registers : Registers) (c : CompilationValue) → length c.translations ≡ 0 → c ≡ counted_behind registers c

@@ -4,6 +4,7 @@ use Rattle.std.specs.Prelude.{if◌then◌else◌, option_map, nat_lt, Option}
 use Rattle.std.specs.List.{list_all}
 use Rattle.std.proofs.lemmas.List.{length-map}
 use Rattle.std.proofs.lemmas.List.Elements.{All-nil, All-cons}
+use Rattle.dwc_base.specs.declared.records.Encoding.{Encoding}
 use Rattle.dwc_rules.proofs.ForestLaws.{Each}
 use Rattle.dwc_rules.specs.Carried.{synthetic_unit}
 use Rattle.dwc_native.specs.Compiled.{Memory, no_memory, defined, imported}
@@ -32,43 +33,43 @@ use Rattle.dwc_carry.proofs.SyntheticMade.{synthetic-made}
 -- ---- entries
 
 -- the unit up to its context
-abbrev front_given : ℕ → SyntheticTexts → Memory → GivenUnit
-front_given size t m = record {
-  version = 4;
-  address_size = size;
+abbrev front_given : Encoding → SyntheticTexts → Memory → GivenUnit
+front_given encoding t m = record {
+  version = encoding.version;
+  address_size = encoding.address_size;
   lines = no_lines None;
   places = places_from 0 (root_addition t ∷ (first_additions t ++ context_additions t m));
   additions = root_addition t ∷ (first_additions t ++ context_additions t m);
 }
 
-three : (size : ℕ) (t : SyntheticTexts) (m : Memory) → with_additions (context_additions t m) (with_additions (first_additions t) (with_attributes 0 (root_attributes t) (new_unit 4 size (no_lines None)))) ≡ front_given size t m
-three size t (defined offset) = refl
-three size t no_memory = refl
-three size t (imported definition base) = refl
+three : (encoding : Encoding) (t : SyntheticTexts) (m : Memory) → with_additions (context_additions t m) (with_additions (first_additions t) (with_attributes 0 (root_attributes t) (new_unit encoding.version encoding.address_size (no_lines None)))) ≡ front_given encoding t m
+three encoding t (defined offset) = refl
+three encoding t no_memory = refl
+three encoding t (imported definition base) = refl
 
-four : (size : ℕ) (t : SyntheticTexts) (m : Memory) → with_additions (last_additions t (place_of_set m)) (front_given size t m) ≡ synthetic_given size t m
-four size t (defined offset) = refl
-four size t no_memory = refl
-four size t (imported definition base) = refl
+four : (encoding : Encoding) (t : SyntheticTexts) (m : Memory) → with_additions (last_additions t (place_of_set m)) (front_given encoding t m) ≡ synthetic_given encoding t m
+four encoding t (defined offset) = refl
+four encoding t no_memory = refl
+four encoding t (imported definition base) = refl
 
-pub front-is : (size : ℕ) (t : SyntheticTexts) (m : Memory) (u0 u1 u2 u3 : GivenUnit) → u0 ≡ new_unit 4 size (no_lines None) → u1 ≡ with_attributes 0 (root_attributes t) u0 → u2 ≡ with_additions (first_additions t) u1 → u3 ≡ with_additions (context_additions t m) u2
-    → u3 ≡ front_given size t m
-front-is size t m u0 u1 u2 u3 e0 e1 e2 e3 =
-    e3 ∙ ap (with_additions (context_additions t m)) (e2 ∙ ap (with_additions (first_additions t)) (e1 ∙ ap (with_attributes 0 (root_attributes t)) e0)) ∙ three size t m
+pub front-is : (encoding : Encoding) (t : SyntheticTexts) (m : Memory) (u0 u1 u2 u3 : GivenUnit) → u0 ≡ new_unit encoding.version encoding.address_size (no_lines None) → u1 ≡ with_attributes 0 (root_attributes t) u0 → u2 ≡ with_additions (first_additions t) u1 → u3 ≡ with_additions (context_additions t m) u2
+    → u3 ≡ front_given encoding t m
+front-is encoding t m u0 u1 u2 u3 e0 e1 e2 e3 =
+    e3 ∙ ap (with_additions (context_additions t m)) (e2 ∙ ap (with_additions (first_additions t)) (e1 ∙ ap (with_attributes 0 (root_attributes t)) e0)) ∙ three encoding t m
 
-pub front-dense : (size : ℕ) (t : SyntheticTexts) (m : Memory) (u : GivenUnit) → u ≡ front_given size t m → IsDense u
-front-dense size t m u is = subst (λ v. IsDense v) (sym is) refl
+pub front-dense : (encoding : Encoding) (t : SyntheticTexts) (m : Memory) (u : GivenUnit) → u ≡ front_given encoding t m → IsDense u
+front-dense encoding t m u is = subst (λ v. IsDense v) (sym is) refl
 
-pub front-length : (size : ℕ) (t : SyntheticTexts) (m : Memory) (u : GivenUnit) → u ≡ front_given size t m → length u.additions ≡ place_of_set m
-front-length size t m u is = ap (λ (v : GivenUnit). length v.additions) is ∙ counted m
+pub front-length : (encoding : Encoding) (t : SyntheticTexts) (m : Memory) (u : GivenUnit) → u ≡ front_given encoding t m → length u.additions ≡ place_of_set m
+front-length encoding t m u is = ap (λ (v : GivenUnit). length v.additions) is ∙ counted m
   where
     counted : (m : Memory) → length (root_addition t ∷ (first_additions t ++ context_additions t m)) ≡ place_of_set m
     counted (defined offset) = refl
     counted no_memory = refl
     counted (imported definition base) = refl
 
-pub synthetic-built : (size : ℕ) (t : SyntheticTexts) (m : Memory) (place : ℕ) (u3 u4 : GivenUnit) → u3 ≡ front_given size t m → place ≡ place_of_set m → u4 ≡ with_additions (last_additions t place) u3 → u4 ≡ synthetic_given size t m
-synthetic-built size t m place u3 u4 front at is = is ∙ ap₂ (λ p u. with_additions (last_additions t p) u) at front ∙ four size t m
+pub synthetic-built : (encoding : Encoding) (t : SyntheticTexts) (m : Memory) (place : ℕ) (u3 u4 : GivenUnit) → u3 ≡ front_given encoding t m → place ≡ place_of_set m → u4 ≡ with_additions (last_additions t place) u3 → u4 ≡ synthetic_given encoding t m
+synthetic-built encoding t m place u3 u4 front at is = is ∙ ap₂ (λ p u. with_additions (last_additions t p) u) at front ∙ four encoding t m
 
 -- ---- texts
 
@@ -95,10 +96,10 @@ indexed ids ns k a same less is =
 -- ---- the whole
 
 -- the texts of the unit have their numbers in the table
-pub synthetic-added : (size number : ℕ) (old table : List (List ℕ)) (t : SyntheticTexts) (set_memory : List ℕ) (m : Memory) → table ≡ texts_added old (synthetic_texts set_memory) → synthetic_numbers t ≡ numbers_added old (synthetic_texts set_memory)
-    → (at : ℕ → ℕ → Option (ℕ × ℕ)) → LeadsTo at number (synthetic_given size t m ∷ []) → IsMadeOf at size table number synthetic_unit (synthetic_tree number set_memory m) (synthetic_given size t m)
-synthetic-added size number old table t set_memory m texts numbers =
-    synthetic-made size number table t set_memory (ap₂ (λ x ns. map (text_numbered x) ns) texts numbers ∙ numbers-named old (synthetic_texts set_memory))
+pub synthetic-added : (encoding : Encoding) (number : ℕ) (old table : List (List ℕ)) (t : SyntheticTexts) (set_memory : List ℕ) (m : Memory) → table ≡ texts_added old (synthetic_texts set_memory) → synthetic_numbers t ≡ numbers_added old (synthetic_texts set_memory)
+    → (at : ℕ → ℕ → Option (ℕ × ℕ)) → LeadsTo at number (synthetic_given encoding t m ∷ []) → IsMadeOf at encoding table number synthetic_unit (synthetic_tree number set_memory m) (synthetic_given encoding t m)
+synthetic-added encoding number old table t set_memory m texts numbers =
+    synthetic-made encoding number table t set_memory (ap₂ (λ x ns. map (text_numbered x) ns) texts numbers ∙ numbers-named old (synthetic_texts set_memory))
     (subst (λ x. All (λ n. n < length x) (synthetic_numbers t)) (sym texts) (subst (λ ns. All (λ n. n < length (texts_added old (synthetic_texts set_memory))) ns) (sym numbers) (numbers-inside old (synthetic_texts set_memory)))) m
 
 -- a memory that is near is not refused

@@ -5,6 +5,7 @@ use Rattle.std.specs.Option.{option_or}
 use Rattle.std.specs.List.{list_all}
 use Rattle.std.proofs.lemmas.Bool.{and_parts, leb-true, ltb-true}
 use Rattle.std.proofs.lemmas.List.Elements.{All-nil, All-cons}
+use Rattle.dwc_base.specs.declared.records.Encoding.{Encoding}
 use Rattle.dwc_rules.proofs.ForestLaws.{Each, Anywhere, SaysNoPlace, UnitSaysNoPlace}
 use Rattle.dwc_carried.proofs.ForestTargets.{synthetic-no-place}
 use Rattle.dwc_rules.specs.Drafts.{Goal, made_of, synthetic_entry, DraftValue, done, goes_to, Draft}
@@ -61,8 +62,8 @@ plain-parents t (suc (suc (suc (suc (suc (suc zero)))))) above within = of-root 
 plain-parents t (suc (suc (suc (suc (suc (suc (suc zero))))))) above within = of-root (depths_below no_memory) 6 refl (lit< tt) refl
 plain-parents t (suc (suc (suc (suc (suc (suc (suc (suc place)))))))) above within = absurd (omega (arith, within))
 
-in-order : (size : ℕ) (t : SyntheticTexts) (m : Memory) → IsInOrder (0 ∷ depths_below m) (synthetic_given size t m)
-in-order size t (defined offset) = record { counted = refl; some = lit< tt; root = refl; parents = parents }
+in-order : (encoding : Encoding) (t : SyntheticTexts) (m : Memory) → IsInOrder (0 ∷ depths_below m) (synthetic_given encoding t m)
+in-order encoding t (defined offset) = record { counted = refl; some = lit< tt; root = refl; parents = parents }
   where
     parents : (place : ℕ) → 0 < place → place < 9 → IsParent (0 ∷ depths_below (defined offset)) (get_or (synthetic_additions t (defined offset)) place (record { parent = 0; tag = 0; attributes = [] })).parent place
     parents zero above within = absurd (omega (arith, above))
@@ -83,20 +84,20 @@ in-order size t (defined offset) = record { counted = refl; some = lit< tt; root
     parents (suc (suc (suc (suc (suc (suc (suc zero))))))) above within = of-root (depths_below (defined offset)) 6 refl (lit< tt) refl
     parents (suc (suc (suc (suc (suc (suc (suc (suc zero)))))))) above within = of-root (depths_below (defined offset)) 7 refl (lit< tt) refl
     parents (suc (suc (suc (suc (suc (suc (suc (suc (suc place))))))))) above within = absurd (omega (arith, within))
-in-order size t no_memory = record { counted = refl; some = lit< tt; root = refl; parents = plain-parents t }
-in-order size t (imported definition base) = record { counted = refl; some = lit< tt; root = refl; parents = plain-parents t }
+in-order encoding t no_memory = record { counted = refl; some = lit< tt; root = refl; parents = plain-parents t }
+in-order encoding t (imported definition base) = record { counted = refl; some = lit< tt; root = refl; parents = plain-parents t }
 
 -- the number of each entry is its place
-pub synthetic-numbered : (size : ℕ) (t : SyntheticTexts) (m : Memory) → IsNumberedByPlaces (synthetic_given size t m)
-synthetic-numbered size t (defined offset) = refl
-synthetic-numbered size t no_memory = refl
-synthetic-numbered size t (imported definition base) = refl
+pub synthetic-numbered : (encoding : Encoding) (t : SyntheticTexts) (m : Memory) → IsNumberedByPlaces (synthetic_given encoding t m)
+synthetic-numbered encoding t (defined offset) = refl
+synthetic-numbered encoding t no_memory = refl
+synthetic-numbered encoding t (imported definition base) = refl
 
-synthetic-length : (size : ℕ) (t : SyntheticTexts) (set_memory : List ℕ) (m : Memory) → length (Synthetic.synthetic_unit set_memory m) ≡ length (synthetic_given size t m).additions
+synthetic-length : (encoding : Encoding) (t : SyntheticTexts) (set_memory : List ℕ) (m : Memory) → length (Synthetic.synthetic_unit set_memory m) ≡ length (synthetic_given encoding t m).additions
 unfolding Synthetic.synthetic_unit
-synthetic-length size t set_memory (defined offset) = refl
-synthetic-length size t set_memory no_memory = refl
-synthetic-length size t set_memory (imported definition base) = refl
+synthetic-length encoding t set_memory (defined offset) = refl
+synthetic-length encoding t set_memory no_memory = refl
+synthetic-length encoding t set_memory (imported definition base) = refl
 
 -- ---- numbers that are put to places
 
@@ -134,7 +135,7 @@ module _ (number : ℕ) (set_memory : List ℕ) (m : Memory) (at : ℕ → ℕ �
 
 -- ---- what it says
 
-module _ (size number : ℕ) (table : List (List ℕ)) (t : SyntheticTexts) (set_memory : List ℕ) (known : map (text_numbered table) (synthetic_numbers t) ≡ synthetic_texts set_memory) where
+module _ (encoding : Encoding) (number : ℕ) (table : List (List ℕ)) (t : SyntheticTexts) (set_memory : List ℕ) (known : map (text_numbered table) (synthetic_numbers t) ≡ synthetic_texts set_memory) where
   -- the text of a place
   text-at : (k : ℕ) → get_or (map (text_numbered table) (synthetic_numbers t)) k [] ≡ get_or (synthetic_texts set_memory) k []
   text-at k = ap (λ ts. get_or ts k []) known
@@ -176,18 +177,18 @@ module _ (size number : ℕ) (table : List (List ℕ)) (t : SyntheticTexts) (set
     texts no_memory = plain-texts
     texts (imported definition base) = plain-texts
 
-    writable : (m : Memory) → IsWritable 4 size (ordered (synthetic_given size t m))
+    writable : (m : Memory) → IsWritable encoding.version encoding.address_size (ordered (synthetic_given encoding t m))
     writable (defined offset) = record { version = refl; size = refl; ended = refl; named = refl }
     writable no_memory = record { version = refl; size = refl; ended = refl; named = refl }
     writable (imported definition base) = record { version = refl; size = refl; ended = refl; named = refl }
 
     -- The unit is made as it is wanted.
-    pub synthetic-made : (m : Memory) (at : ℕ → ℕ → Option (ℕ × ℕ)) → LeadsTo at number (synthetic_given size t m ∷ []) → IsMadeOf at size table number synthetic_unit (synthetic_tree number set_memory m) (synthetic_given size t m)
+    pub synthetic-made : (m : Memory) (at : ℕ → ℕ → Option (ℕ × ℕ)) → LeadsTo at number (synthetic_given encoding t m ∷ []) → IsMadeOf at encoding table number synthetic_unit (synthetic_tree number set_memory m) (synthetic_given encoding t m)
     synthetic-made m at leads = record {
       has_lines = refl;
       depths = 0 ∷ depths_below m;
-      order = in-order size t m;
-      leads = numbered-leads (synthetic_given size t m) (synthetic-numbered size t m);
+      order = in-order encoding t m;
+      leads = numbered-leads (synthetic_given encoding t m) (synthetic-numbered encoding t m);
       says = ap (map (renumbered_entry at)) (says m) ∙ synthetic-put number set_memory m at there;
       texts = texts m;
       writable = writable m;
@@ -197,4 +198,4 @@ module _ (size number : ℕ) (table : List (List ℕ)) (t : SyntheticTexts) (set
         there place within =
             let counted : number + 0 ≡ number = omega arith in
             subst (λ k. at k place ≡ Some (k, place)) counted
-            (leads 0 (synthetic_given size t m) refl place place (numbered-place (synthetic_given size t m) place (synthetic-numbered size t m) (omega (arith, within, synthetic-length size t set_memory m))))
+            (leads 0 (synthetic_given encoding t m) refl place place (numbered-place (synthetic_given encoding t m) place (synthetic-numbered encoding t m) (omega (arith, within, synthetic-length encoding t set_memory m))))

@@ -3,6 +3,7 @@ use Rattle.std.proofs.Common.{◌≡◌, ℕ, suc, ◌+◌, ◌<◌, List, [], �
 use Rattle.std.specs.Prelude.{option_map}
 use Rattle.std.specs.List.{flat_map}
 use Rattle.std.proofs.lemmas.List.{append-nil, append_assoc, length-append, length-map}
+use Rattle.dwc_base.specs.declared.records.Encoding.{Encoding}
 use Rattle.dwc_rules.specs.Carried.{Module, synthetic_unit, carried_unit}
 use Rattle.dwc_dwarf.specs.ReadUnits.{Unit}
 use Rattle.dwc_native.specs.Compiled.{Memory, no_memory, defined, imported}
@@ -44,13 +45,13 @@ synthetic-settled number set_memory no_memory carried = refl
 synthetic-settled number set_memory (imported definition base) carried = refl
 
 -- What is added for a name and a memory is added for what is told of the module.
-pub synthetic-told : (size : ℕ) (name told_name : List ℕ) (m told_memory : Memory) (old middle : Dwarf) (synthetic : ModuleSyntheticUnit) → name ≡ told_name → m ≡ told_memory
-    → (option_map in_reading (first_of (synthetic_refusals m)) ≡ None) × AddsSyntheticUnit size name m old.units.units.items middle.units.units.items old.strings middle.strings synthetic
-    → (option_map in_reading (first_of (synthetic_refusals told_memory)) ≡ None) × AddsSyntheticUnit size told_name told_memory old.units.units.items middle.units.units.items old.strings middle.strings synthetic
-synthetic-told size name told_name m told_memory old middle synthetic names memories h = (
+pub synthetic-told : (encoding : Encoding) (name told_name : List ℕ) (m told_memory : Memory) (old middle : Dwarf) (synthetic : ModuleSyntheticUnit) → name ≡ told_name → m ≡ told_memory
+    → (option_map in_reading (first_of (synthetic_refusals m)) ≡ None) × AddsSyntheticUnit encoding name m old.units.units.items middle.units.units.items old.strings middle.strings synthetic
+    → (option_map in_reading (first_of (synthetic_refusals told_memory)) ≡ None) × AddsSyntheticUnit encoding told_name told_memory old.units.units.items middle.units.units.items old.strings middle.strings synthetic
+synthetic-told encoding name told_name m told_memory old middle synthetic names memories h = (
   ap (λ x. option_map in_reading (first_of (synthetic_refusals x))) (sym memories) ∙ h.0,
-  subst (λ n. AddsSyntheticUnit size n told_memory old.units.units.items middle.units.units.items old.strings middle.strings synthetic) names
-      (subst (λ x. AddsSyntheticUnit size name x old.units.units.items middle.units.units.items old.strings middle.strings synthetic) memories h.1),
+  subst (λ n. AddsSyntheticUnit encoding n told_memory old.units.units.items middle.units.units.items old.strings middle.strings synthetic) names
+      (subst (λ x. AddsSyntheticUnit encoding name x old.units.units.items middle.units.units.items old.strings middle.strings synthetic) memories h.1),
 )
 
 inside : (n k : ℕ) (ds ms : List Draft) → length ds ≡ n → length ms ≡ k → 6 + k < n → 6 + length ms < length ds
@@ -64,9 +65,9 @@ context-inside set_memory no_memory = inside 8 0 (Synthetic.synthetic_unit set_m
 context-inside set_memory (imported definition base) = inside 8 0 (Synthetic.synthetic_unit set_memory (imported definition base)) (memory_members (imported definition base)) refl refl (omega arith)
 
 -- The places of a module's synthetic unit are led to by their numbers.
-synthetic-there : (at : ℕ → ℕ → Option (ℕ × ℕ)) (number size : ℕ) (set_memory : List ℕ) (m : Memory) (made : GivenUnit) {table : List (List ℕ)} → IsNumberedByPlaces made → IsMadeOf at size table number synthetic_unit (synthetic_tree number set_memory m) made → LeadsTo at number (made ∷ [])
+synthetic-there : (at : ℕ → ℕ → Option (ℕ × ℕ)) (number : ℕ) (encoding : Encoding) (set_memory : List ℕ) (m : Memory) (made : GivenUnit) {table : List (List ℕ)} → IsNumberedByPlaces made → IsMadeOf at encoding table number synthetic_unit (synthetic_tree number set_memory m) made → LeadsTo at number (made ∷ [])
     → (place : ℕ) → place < length (Synthetic.synthetic_unit set_memory m) → at number place ≡ Some (number, place)
-synthetic-there at number size set_memory m made {table} numbered is leads place within =
+synthetic-there at number encoding set_memory m made {table} numbered is leads place within =
     let settled = settled_unit (place_of_goal number (record { synthetic = Some (Synthetic.synthetic_unit set_memory m); carried = [] })) (Synthetic.synthetic_unit set_memory m) in
     let drafted : length settled ≡ length (Synthetic.synthetic_unit set_memory m) = length-map (Synthetic.synthetic_unit set_memory m) (settled_entry (place_of_goal number (record { synthetic = Some (Synthetic.synthetic_unit set_memory m); carried = [] }))) in
     let counted : length (tree_meant table number is.depths made.additions) ≡ length settled = sym (length-map (tree_meant table number is.depths made.additions) (renumbered_entry at)) ∙ ap length is.says in
@@ -93,21 +94,21 @@ module _ (big_endian : Bool) (m : Module) where
   -- ---- what is added
 
   -- the units that carry those of the module stand behind its own
-  pub synthetic-counted : (size : ℕ) (old middle : Dwarf) (synthetic : ModuleSyntheticUnit) → AddsSyntheticUnit size m.told.names.set_memory m.told.memory old.units.units.items middle.units.units.items old.strings middle.strings synthetic
+  pub synthetic-counted : (encoding : Encoding) (old middle : Dwarf) (synthetic : ModuleSyntheticUnit) → AddsSyntheticUnit encoding m.told.names.set_memory m.told.memory old.units.units.items middle.units.units.items old.strings middle.strings synthetic
       → length middle.units.units.items ≡ suc (length old.units.units.items)
-  synthetic-counted size old middle synthetic a = ap length a.added ∙ length-append old.units.units.items (a.made ∷ []) ∙ omega arith
+  synthetic-counted encoding old middle synthetic a = ap length a.added ∙ length-append old.units.units.items (a.made ∷ []) ∙ omega arith
 
   -- A module's synthetic unit is added, and behind it those that carry its units.
-  pub module-both : (size : ℕ) (old middle new : Dwarf) (synthetic : ModuleSyntheticUnit)
-      → AddsSyntheticUnit size m.told.names.set_memory m.told.memory old.units.units.items middle.units.units.items old.strings middle.strings synthetic → AddsCarried size big_endian m (length old.units.units.items) middle new
-      → AddsModule size big_endian m old.units.units.items new.units.units.items old.strings new.strings
-  module-both size old middle new synthetic a b =
+  pub module-both : (encoding : Encoding) (old middle new : Dwarf) (synthetic : ModuleSyntheticUnit)
+      → AddsSyntheticUnit encoding m.told.names.set_memory m.told.memory old.units.units.items middle.units.units.items old.strings middle.strings synthetic → AddsCarried encoding big_endian m (length old.units.units.items) middle new
+      → AddsModule encoding big_endian m old.units.units.items new.units.units.items old.strings new.strings
+  module-both encoding old middle new synthetic a b =
       let n = length old.units.units.items in
       let u = b.units_added in
       let set_memory = m.told.names.set_memory in
       let memory = m.told.memory in
       let tree = synthetic_tree n set_memory memory in
-      let one_more = synthetic-counted size old middle synthetic a in
+      let one_more = synthetic-counted encoding old middle synthetic a in
       record {
         made = a.made ∷ u.made;
         added = u.added ∙ ap (λ us. us ++ u.made) a.added ∙ append_assoc old.units.units.items (a.made ∷ []) u.made;
@@ -115,16 +116,16 @@ module _ (big_endian : Bool) (m : Module) where
         counted = ap suc (u.counted ∙ sym (length-map (carried_units_of m) carried_unit));
         each = λ at leads.
             let synthetic = leads-front at n (a.made ∷ []) u.made leads in
-            let first = made-grown at size middle.strings new.strings n (synthetic_unit ∷ []) (tree ∷ []) (a.made ∷ []) u.grows (a.is at synthetic, tt) in
+            let first = made-grown at encoding middle.strings new.strings n (synthetic_unit ∷ []) (tree ∷ []) (a.made ∷ []) u.grows (a.is at synthetic, tt) in
             let behind = leads-behind at n (length middle.units.units.items) (a.made ∷ []) u.made (omega (arith, one_more)) leads in
-            let there = synthetic-there at n size set_memory memory a.made a.numbered (a.is at synthetic) synthetic in
-            let rest = subst (λ k. AreMadeOf at size new.strings k (map carried_unit (carried_units_of m)) (map (wanted_of big_endian m n) (carried_in (kept_of m))) u.made) one_more (u.each at behind there) in
-            let both : AreMadeOf at size new.strings n (wanted_units_of m) (tree ∷ map (wanted_of big_endian m n) (carried_in (kept_of m))) (a.made ∷ u.made) = (first.0, rest) in
-            subst (λ ws. AreMadeOf at size new.strings n ws (trees_from n (map (module_drafts big_endian) (m ∷ []))) (a.made ∷ u.made)) (sym (append-nil (wanted_units_of m)))
-            (subst (λ ts. AreMadeOf at size new.strings n (wanted_units_of m) ts (a.made ∷ u.made)) (sym (module-trees n)) both);
+            let there = synthetic-there at n encoding set_memory memory a.made a.numbered (a.is at synthetic) synthetic in
+            let rest = subst (λ k. AreMadeOf at encoding new.strings k (map carried_unit (carried_units_of m)) (map (wanted_of big_endian m n) (carried_in (kept_of m))) u.made) one_more (u.each at behind there) in
+            let both : AreMadeOf at encoding new.strings n (wanted_units_of m) (tree ∷ map (wanted_of big_endian m n) (carried_in (kept_of m))) (a.made ∷ u.made) = (first.0, rest) in
+            subst (λ ws. AreMadeOf at encoding new.strings n ws (trees_from n (map (module_drafts big_endian) (m ∷ []))) (a.made ∷ u.made)) (sym (append-nil (wanted_units_of m)))
+            (subst (λ ts. AreMadeOf at encoding new.strings n (wanted_units_of m) ts (a.made ∷ u.made)) (sym (module-trees n)) both);
         context = λ at leads.
             let synthetic = leads-front at n (a.made ∷ []) u.made leads in
-            synthetic-there at n size set_memory memory a.made a.numbered (a.is at synthetic) synthetic (place_of_context_pointer memory) (context-inside set_memory memory);
+            synthetic-there at n encoding set_memory memory a.made a.numbered (a.is at synthetic) synthetic (place_of_context_pointer memory) (context-inside set_memory memory);
         whole = b.whole;
       }
 

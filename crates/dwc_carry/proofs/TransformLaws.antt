@@ -7,6 +7,7 @@ use Rattle.std.specs.List.{flat_map}
 use Rattle.std.proofs.lemmas.List.{append-nil, append_assoc, drop_more, drop_all, length-map}
 use Rattle.std.proofs.lemmas.List.Elements.{All-nil, All-cons}
 use Rattle.std.proofs.lemmas.Option.{slice_get-get_or}
+use Rattle.dwc_base.specs.declared.records.Encoding.{Encoding}
 use Rattle.dwc_base.specs.declared.records.Endian.{Endian}
 use Rattle.dwc_base.specs.declared.records.MapFault.{MapFault}
 use Rattle.dwc_base.specs.declared.translation.ModuleTranslation.{ModuleTranslation}
@@ -48,7 +49,7 @@ use Rattle.dwc_carry.specs.CarriedModules.{AddsModules}
 use Rattle.dwc_carry.specs.SyntheticUnits.{reference_meant}
 use Rattle.dwc_carry.specs.SimulatedDrafts.{ContextsStay}
 use Rattle.dwc_carry.specs.SimulatedUnits.{AddsSimulatedUnit, AreTranslated, ReferToContexts, referred}
-use Rattle.dwc_carry.specs.Inputs.{names_of, functions_from, modules_of, input_of, bad_map_from, bad_map, maps_refusal, refused_before_path}
+use Rattle.dwc_carry.specs.Inputs.{encoding_of, names_of, functions_from, modules_of, input_of, bad_map_from, bad_map, maps_refusal, refused_before_path}
 use Rattle.dwc_carry.specs.Transformed.{have_long, lengths_checked, IsTransformed}
 use Rattle.dwc_carry.proofs.CompiledLaws.{all_functions, counted-length, functions-are, functions-length}
 use Rattle.dwc_carry.proofs.OutputTargets.{all-targets}
@@ -160,13 +161,13 @@ pub lengths-short : (c : CompilationValue) → Ok tt ≡ lengths_checked (functi
 lengths-short c h = checked-short (functions_from 0 c.translations c.functions) h
 
 -- Units that are made of its carried units are what it is transformed to.
-transformed-of : (size : ℕ) (c : Compilation) (texts : List (List ℕ)) (us : List GivenUnit) → first_refusal c ≡ None → AreMadeOf (place_at us) size texts 0 (wanted_units c) (trees_made c) us → All (λ m. (units m.sections).fault ≡ None) c.modules → IsTransformed size c texts us
-transformed-of size c texts us none made whole =
-    let same = made-trees size texts (wanted_units c) (trees_made c) us made in
+transformed-of : (c : Compilation) (texts : List (List ℕ)) (us : List GivenUnit) → first_refusal c ≡ None → AreMadeOf (place_at us) (encoding_of c) texts 0 (wanted_units c) (trees_made c) us → All (λ m. (units m.sections).fault ≡ None) c.modules → IsTransformed c texts us
+transformed-of c texts us none made whole =
+    let same = made-trees (encoding_of c) texts (wanted_units c) (trees_made c) us made in
     record {
       made = made;
       whole = whole;
-      texts = made-texts (place_at us) size texts 0 (wanted_units c) (trees_made c) us made;
+      texts = made-texts (place_at us) (encoding_of c) texts 0 (wanted_units c) (trees_made c) us made;
       trees = forest-is c none ∙ ap (λ (ts : List Tree). Ok ts) (sym same);
       targets = subst HasAllTargets (sym same) (all-targets c);
     }
@@ -230,7 +231,7 @@ module _ (registers : Registers) (c : CompilationValue) (counted : IsCounted c.t
   refers-each refs refers =
       refers-length 0 modules refs refers
       ∙ sym (length-map modules (λ (m : Module). m.functions))
-      ∙ ap length (functions-are registers (names_of c) c.translations c.functions c.memory_offsets counted)
+      ∙ ap length (functions-are c.tunables.dwarf_version registers (names_of c) c.translations c.functions c.memory_offsets counted)
       ∙ functions-length 0 c.translations c.functions (counted-length c.translations c.functions c.memory_offsets counted)
 
   each-refused : (ms : List Module) → flat_map function_refusals (all_functions ms) ≡ flat_map (λ (m : Module). function_refusals m.functions) ms
@@ -239,7 +240,7 @@ module _ (registers : Registers) (c : CompilationValue) (counted : IsCounted c.t
 
   -- the functions of the modules are refused as those of the transforms
   functions-refused : flat_map function_refusals functions ≡ flat_map (λ (m : Module). function_refusals m.functions) modules
-  functions-refused = ap (flat_map function_refusals) (sym (functions-are registers (names_of c) c.translations c.functions c.memory_offsets counted)) ∙ each-refused modules
+  functions-refused = ap (flat_map function_refusals) (sym (functions-are c.tunables.dwarf_version registers (names_of c) c.translations c.functions c.memory_offsets counted)) ∙ each-refused modules
 
   -- what is refused behind the lengths of functions is refused of the input, whose maps are good and whose functions short
   behind-lengths : maps_refusal c ≡ None → have_long functions ≡ false → option_map in_reading (first_of (flat_map module_refusals modules ++ (simulated_refused ++ []))) ≡ input_refusal
@@ -313,10 +314,14 @@ module _ (registers : Registers) (c : CompilationValue) (counted : IsCounted c.t
       clash : false ≡ true → ⊥
       clash e = cc
 
-  module _ (order : Endian) (size : ℕ) (before between : List (List ℕ)) (vs : List GivenUnit) (carried : CarriedModules) (k : AddsModules size (is_big order) modules [] vs before between carried) where
+  module _ (order : Endian) (size : ℕ) (before between : List (List ℕ)) (vs : List GivenUnit) (carried : CarriedModules) (k : AddsModules (encoding_of (input_of order size registers None c)) (is_big order) modules [] vs before between carried) where
     -- the input without frames
     abbrev input : Compilation
     input = input_of order size registers None c
+
+    -- how its units spell their numbers
+    abbrev encoding : Encoding
+    encoding = encoding_of input
 
     abbrev trees_of_modules : List Tree
     trees_of_modules = trees_from 0 (map (module_drafts (is_big order)) modules)
@@ -325,16 +330,16 @@ module _ (registers : Registers) (c : CompilationValue) (counted : IsCounted c.t
     units-numbered : length vs ≡ sum_by unit_count modules
     units-numbered =
         let leads : LeadsTo (place_at vs) 0 k.made = subst (λ us. LeadsTo (place_at vs) 0 us) k.added (leads-there vs) in
-        ap length k.added ∙ sym (made-length (place_at vs) size between 0 (module_units input) trees_of_modules k.made (k.each (place_at vs) leads)) ∙ last-number (is_big order) 0 modules
+        ap length k.added ∙ sym (made-length (place_at vs) encoding between 0 (module_units input) trees_of_modules k.made (k.each (place_at vs) leads)) ∙ last-number (is_big order) 0 modules
 
     -- The input is accepted, and the units that are added are those of it.
     pub input-transformed : (texts : List (List ℕ)) (us : List GivenUnit) → maps_refusal c ≡ None → have_long functions ≡ false → refusals_in modules ≡ None
-        → (option_map in_reading (first_of (simulated_unit_refusals (is_noted carried.translated) c.next_id modules)) ≡ None) × AddsSimulatedUnit (is_noted carried.translated) size c.next_id modules carried.vmctx_ptrs.items vs us between texts
-        → (input_refusal ≡ None) × IsTransformed size (input_of order size registers None c) texts us
+        → (option_map in_reading (first_of (simulated_unit_refusals (is_noted carried.translated) c.next_id modules)) ≡ None) × AddsSimulatedUnit (is_noted carried.translated) encoding c.next_id modules carried.vmctx_ptrs.items vs us between texts
+        → (input_refusal ≡ None) × IsTransformed input texts us
     input-transformed texts us good short none given =
         let same = same-numbers modules carried.translated k.translated in
         let last = subst (λ (begun : ℕ → Bool). option_map in_reading (first_of (simulated_unit_refusals begun c.next_id modules)) ≡ None) same given.0 in
-        let l = subst (λ (begun : ℕ → Bool). AddsSimulatedUnit begun size c.next_id modules carried.vmctx_ptrs.items vs us between texts) same given.1 in
+        let l = subst (λ (begun : ℕ → Bool). AddsSimulatedUnit begun encoding c.next_id modules carried.vmctx_ptrs.items vs us between texts) same given.1 in
         let accepted : input_refusal ≡ None = sym (behind-lengths good short) ∙ ap (option_map in_reading) (behind-modules none) ∙ last in
         let all : us ≡ k.made ++ l.made = l.added ∙ ap (λ ws. ws ++ l.made) k.added in
         let counted : length vs ≡ 0 + length k.made = omega (arith, ap length k.added) in
@@ -344,12 +349,12 @@ module _ (registers : Registers) (c : CompilationValue) (counted : IsCounted c.t
         let ends : Option (List Draft) → List Tree = λ drafts. map (settled_unit (λ goal. None)) (option_to_list drafts) in
         let drafts : simulated_drafts_at (is_begun modules) c.next_id (length vs) (referred (place_at us) carried.vmctx_ptrs.items) modules ≡ simulated_drafts (is_begun modules) c.next_id modules =
         ap₂ (λ (n : ℕ) (pointers : List TreeValue). simulated_drafts_at (is_begun modules) c.next_id n pointers modules) units-numbered (contexts-referred (place_at us) 0 modules carried.vmctx_ptrs.items k.refers (k.contexts (place_at us) front)) in
-        let one = made-grown (place_at us) size between texts 0 (module_units input) trees_of_modules k.made l.grows (k.each (place_at us) front) in
-        let two = subst (λ ds. AreMadeOf (place_at us) size texts (length vs) (simulated_wanted (is_begun modules) c.next_id modules) (ends ds) l.made) drafts (l.each (place_at us) behind) in
-        let both = made-both (place_at us) size texts 0 (length vs) (module_units input) (simulated_wanted (is_begun modules) c.next_id modules) trees_of_modules (ends (simulated_drafts (is_begun modules) c.next_id modules)) k.made l.made counted one two in
-        let made : AreMadeOf (place_at us) size texts 0 (wanted_units input) (trees_made input) us =
-        subst (AreMadeOf (place_at us) size texts 0 (wanted_units input) (trees_made input)) (sym all)
-        (subst (λ ts. AreMadeOf (place_at us) size texts 0 (wanted_units input) ts (k.made ++ l.made)) (sym (trees-of-all input)) both) in (
+        let one = made-grown (place_at us) encoding between texts 0 (module_units input) trees_of_modules k.made l.grows (k.each (place_at us) front) in
+        let two = subst (λ ds. AreMadeOf (place_at us) encoding texts (length vs) (simulated_wanted (is_begun modules) c.next_id modules) (ends ds) l.made) drafts (l.each (place_at us) behind) in
+        let both = made-both (place_at us) encoding texts 0 (length vs) (module_units input) (simulated_wanted (is_begun modules) c.next_id modules) trees_of_modules (ends (simulated_drafts (is_begun modules) c.next_id modules)) k.made l.made counted one two in
+        let made : AreMadeOf (place_at us) encoding texts 0 (wanted_units input) (trees_made input) us =
+        subst (AreMadeOf (place_at us) encoding texts 0 (wanted_units input) (trees_made input)) (sym all)
+        (subst (λ ts. AreMadeOf (place_at us) encoding texts 0 (wanted_units input) ts (k.made ++ l.made)) (sym (trees-of-all input)) both) in (
           accepted,
-          transformed-of size input texts us (unmapped in_reading (first_refusal input) (neither (maps_refusal c) reading_refusal accepted).1) made k.whole,
+          transformed-of input texts us (unmapped in_reading (first_refusal input) (neither (maps_refusal c) reading_refusal accepted).1) made k.whole,
         )

@@ -5,6 +5,7 @@ use Rattle.std.specs.List.{filter, flat_map}
 use Rattle.std.proofs.lemmas.Bool.{lt-ltb, le-ltb}
 use Rattle.std.proofs.lemmas.List.{append-nil, append_assoc, length-append, length-map, drop_more}
 use Rattle.std.proofs.lemmas.List.Elements.{All-nil, All-cons, All-head, All-tail, All-append, All-weaker}
+use Rattle.dwc_base.specs.declared.records.Encoding.{Encoding}
 use Rattle.dwc_native.specs.Functions.{Function}
 use Rattle.dwc_native.specs.Compiled.{ToldModule}
 use Rattle.dwc_base.specs.Units.{UnitHeader}
@@ -47,9 +48,9 @@ texts-more : (before after : List (List ℕ)) (ns : List ℕ) → Grows before a
 texts-more before after ns grows h = All-weaker (λ n. n < length before) (λ n. n < length after) (λ n less. omega (arith, less, ap length grows.is, length-append before grows.more)) ns h
 
 -- A unit that carries one says the same with it.
-pub carries-more : (size : ℕ) (big_endian : Bool) (c : Module) (first : ℕ) (places : List EmittedEntry) (before after : List (List ℕ)) (number : ℕ) (u : Unit) (g : GivenUnit) → Grows before after → CarriesUnit size big_endian c first places before number u g
-    → CarriesUnit size big_endian c first places after number u g
-carries-more size big_endian c first places before after number u g grows h = record {
+pub carries-more : (encoding : Encoding) (big_endian : Bool) (c : Module) (first : ℕ) (places : List EmittedEntry) (before after : List (List ℕ)) (number : ℕ) (u : Unit) (g : GivenUnit) → Grows before after → CarriesUnit encoding big_endian c first places before number u g
+    → CarriesUnit encoding big_endian c first places after number u g
+carries-more encoding big_endian c first places before after number u g grows h = record {
   has_lines = h.has_lines;
   depths = h.depths;
   order = h.order;
@@ -180,15 +181,15 @@ module _ (kept : List ℕ) (r : ReadUnit) (rest : List ReadUnit) where
   left-some some = ap (λ b. cond {A = List ReadUnit} b (r ∷ filter (is_carried_read kept) rest) (filter (is_carried_read kept) rest)) (carried-is ∙ lt-ltb 0 (length (carried_offsets kept r)) some)
 
 -- Units that carry some are as many.
-carry-length : (size : ℕ) (big_endian : Bool) (c : Module) (first : ℕ) (places : List EmittedEntry) (table : List (List ℕ)) (number : ℕ) (us : List Unit) (gs : List GivenUnit) → CarryUnits size big_endian c first places table number us gs → length us ≡ length gs
-carry-length size big_endian c first places table number [] [] h = refl
-carry-length size big_endian c first places table number [] (g ∷ gs) h = absurd h
-carry-length size big_endian c first places table number (u ∷ us) [] h = absurd h
-carry-length size big_endian c first places table number (u ∷ us) (g ∷ gs) h = ap suc (carry-length size big_endian c first places table (suc number) us gs h.1)
+carry-length : (encoding : Encoding) (big_endian : Bool) (c : Module) (first : ℕ) (places : List EmittedEntry) (table : List (List ℕ)) (number : ℕ) (us : List Unit) (gs : List GivenUnit) → CarryUnits encoding big_endian c first places table number us gs → length us ≡ length gs
+carry-length encoding big_endian c first places table number [] [] h = refl
+carry-length encoding big_endian c first places table number [] (g ∷ gs) h = absurd h
+carry-length encoding big_endian c first places table number (u ∷ us) [] h = absurd h
+carry-length encoding big_endian c first places table number (u ∷ us) (g ∷ gs) h = ap suc (carry-length encoding big_endian c first places table (suc number) us gs h.1)
 
 -- ---- what is added
 
-module _ (c : Module) (m : KeptModule) (size : ℕ) (big_endian : Bool) (first : ℕ) where
+module _ (c : Module) (m : KeptModule) (encoding : Encoding) (big_endian : Bool) (first : ℕ) where
   abbrev of_read : ReadUnit → Unit
   of_read r = unit_read c.sections r.unit.header
 
@@ -200,7 +201,7 @@ module _ (c : Module) (m : KeptModule) (size : ℕ) (big_endian : Bool) (first :
   placed = numbered_lists (suc first) (emitted m.kept m.units.items)
 
   abbrev Made : List (List ℕ) → ℕ → List ReadUnit → List GivenUnit → Type 0
-  Made table number rest us = CarryUnits size big_endian c first placed table number (carried_left rest) us
+  Made table number rest us = CarryUnits encoding big_endian c first placed table number (carried_left rest) us
 
   abbrev Refused : List ReadUnit → List Refusal
   Refused rest = flat_map (refusals_of c) (carried_left rest)
@@ -223,13 +224,13 @@ module _ (c : Module) (m : KeptModule) (size : ℕ) (big_endian : Bool) (first :
         added = h.added;
         grows = h.grows;
         each = λ after grown more k.
-            h.each after grown more (subst (λ rs. CarryUnits size big_endian c first placed after (length new.units.units.items) (map of_read rs) more) (sym (left-none m.kept r rest none)) k);
+            h.each after grown more (subst (λ rs. CarryUnits encoding big_endian c first placed after (length new.units.units.items) (map of_read rs) more) (sym (left-none m.kept r rest none)) k);
         accepted = sym (ap (λ rs. flat_map (refusals_of c) (map of_read rs)) (left-none m.kept r rest none)) ∙ h.accepted;
         place = front-none m.kept (suc first) (length new.units.units.items) all r rest h.place none;
       }
 
       -- a unit that is carried
-      pub units-some : 0 < length (carried_offsets m.kept r) → (next : Dwarf) → (option_map in_reading (first_of (refusals_of c (of_read r))) ≡ None) → AddsUnit size big_endian c first placed (of_read r) new next → UnitsSoFar all old next rest
+      pub units-some : 0 < length (carried_offsets m.kept r) → (next : Dwarf) → (option_map in_reading (first_of (refusals_of c (of_read r))) ≡ None) → AddsUnit encoding big_endian c first placed (of_read r) new next → UnitsSoFar all old next rest
       units-some some next none a =
           let long : length next.units.units.items ≡ suc (length new.units.units.items) = ap length a.added ∙ length-append new.units.units.items (a.made ∷ []) ∙ omega arith in
           record {
@@ -239,8 +240,8 @@ module _ (c : Module) (m : KeptModule) (size : ℕ) (big_endian : Bool) (first :
             each = λ after grown more k.
                 subst (λ us. Made after (length old.units.units.items) all us) (sym (append_assoc h.made (a.made ∷ []) more))
                 (h.each after (grows-more new.strings next.strings after a.grows grown) (a.made ∷ more)
-                (subst (λ rs. CarryUnits size big_endian c first placed after (length new.units.units.items) (map of_read rs) (a.made ∷ more)) (sym (left-some m.kept r rest some))
-                (carries-more size big_endian c first placed next.strings after (length new.units.units.items) (of_read r) a.made grown a.is, subst (λ n. Made after n rest more) long k)));
+                (subst (λ rs. CarryUnits encoding big_endian c first placed after (length new.units.units.items) (map of_read rs) (a.made ∷ more)) (sym (left-some m.kept r rest some))
+                (carries-more encoding big_endian c first placed next.strings after (length new.units.units.items) (of_read r) a.made grown a.is, subst (λ n. Made after n rest more) long k)));
             accepted =
                 sym (ap (λ rs. flat_map (refusals_of c) (map of_read rs)) (left-some m.kept r rest some)
                 ∙ ap (λ xs. xs ++ Refused rest) (no-first (refusals_of c (of_read r)) (unmapped in_reading (first_of (refusals_of c (of_read r))) none)))
@@ -255,35 +256,35 @@ module _ (c : Module) (m : KeptModule) (size : ℕ) (big_endian : Bool) (first :
           (λ x is. sym (ap first_of h.accepted) ∙ ap (λ rs. first_of (flat_map (refusals_of c) (map of_read rs))) (left-some m.kept r rest some) ∙ first-behind (refusals_of c (of_read r)) (Refused rest) x is) met
 
     -- behind the last one
-    pub units-done : length old.units.units.items ≡ suc first → UnitsSoFar all old new [] → all ≡ m.units.items → IsOfModule c c.functions c.told m
-        → (option_map in_reading (first_of (flat_map (refusals_of c) (carried_in (kept_of c)))) ≡ None) × AddsUnits size big_endian c first old new
+    pub units-done : length old.units.units.items ≡ suc first → UnitsSoFar all old new [] → all ≡ m.units.items → IsOfModule encoding.version c c.functions c.told m
+        → (option_map in_reading (first_of (flat_map (refusals_of c) (carried_in (kept_of c)))) ≡ None) × AddsUnits encoding big_endian c first old new
     units-done at_begin h are of =
         let carried_is : carried_in (kept_of c) ≡ carried_left all = carried-read c m of.is ∙ ap carried_left (sym are) in
         let carry : Made new.strings (length old.units.units.items) all h.made = subst (λ us. Made new.strings (length old.units.units.items) all us) (append-nil h.made) (h.each new.strings (grows-none new.strings) [] tt) in
-        let there : CarryUnits size big_endian c first placed new.strings (suc first) (map of_read (filter (is_carried_read m.kept) m.units.items)) h.made =
-        subst (λ n. CarryUnits size big_endian c first placed new.strings n (map of_read (filter (is_carried_read m.kept) m.units.items)) h.made) at_begin
-        (subst (λ rs. CarryUnits size big_endian c first placed new.strings (length old.units.units.items) (map of_read (filter (is_carried_read m.kept) rs)) h.made) are carry) in (
+        let there : CarryUnits encoding big_endian c first placed new.strings (suc first) (map of_read (filter (is_carried_read m.kept) m.units.items)) h.made =
+        subst (λ n. CarryUnits encoding big_endian c first placed new.strings n (map of_read (filter (is_carried_read m.kept) m.units.items)) h.made) at_begin
+        (subst (λ rs. CarryUnits encoding big_endian c first placed new.strings (length old.units.units.items) (map of_read (filter (is_carried_read m.kept) rs)) h.made) are carry) in (
           ap (λ us. option_map in_reading (first_of (flat_map (refusals_of c) us))) carried_is ∙ ap (λ rs. option_map in_reading (first_of rs)) (sym h.accepted),
           record {
             made = h.made;
             added = h.added;
             grows = h.grows;
             counted =
-                sym (carry-length size big_endian c first placed new.strings (suc first) (map of_read (filter (is_carried_read m.kept) m.units.items)) h.made there)
+                sym (carry-length encoding big_endian c first placed new.strings (suc first) (map of_read (filter (is_carried_read m.kept) m.units.items)) h.made there)
                 ∙ ap length (sym (carried-read c m of.is)) ∙ sym (length-map (carried_in (kept_of c)) (λ (u : Unit). record { module_of = c; unit = u }));
             each = λ at leads synthetic_there.
-                subst (λ us. AreMadeOf at size new.strings (length old.units.units.items) (map carried_unit (map (λ u. record { module_of = c; unit = u }) us)) (map (wanted_of big_endian c first) us) h.made) (sym (carried-read c m of.is))
-                (subst (λ n. AreMadeOf at size new.strings n (map carried_unit (map (λ u. record { module_of = c; unit = u }) (map of_read (filter (is_carried_read m.kept) m.units.items)))) (map (wanted_of big_endian c first) (map of_read (filter (is_carried_read m.kept) m.units.items))) h.made) (sym at_begin)
-                (carried-made c m of.is size big_endian first placed refl new.strings at synthetic_there h.made there (subst (λ n. LeadsTo at n h.made) at_begin leads)));
+                subst (λ us. AreMadeOf at encoding new.strings (length old.units.units.items) (map carried_unit (map (λ u. record { module_of = c; unit = u }) us)) (map (wanted_of big_endian c first) us) h.made) (sym (carried-read c m of.is))
+                (subst (λ n. AreMadeOf at encoding new.strings n (map carried_unit (map (λ u. record { module_of = c; unit = u }) (map of_read (filter (is_carried_read m.kept) m.units.items)))) (map (wanted_of big_endian c first) (map of_read (filter (is_carried_read m.kept) m.units.items))) h.made) (sym at_begin)
+                (carried-made c m of.is encoding big_endian first placed refl new.strings at synthetic_there h.made there (subst (λ n. LeadsTo at n h.made) at_begin leads)));
           },
         )
 
     -- all that is refused is refused of the module
-    pub refused-all : all ≡ m.units.items → IsOfModule c c.functions c.told m → (e : DebugError) → RefusesReading (first_of (Refused all)) e → RefusesReading (first_of (flat_map (refusals_of c) (carried_in (kept_of c)))) e
+    pub refused-all : all ≡ m.units.items → IsOfModule encoding.version c c.functions c.told m → (e : DebugError) → RefusesReading (first_of (Refused all)) e → RefusesReading (first_of (flat_map (refusals_of c) (carried_in (kept_of c)))) e
     refused-all are of e = subst (λ us. RefusesReading (first_of (flat_map (refusals_of c) us)) e) (sym (carried-read c m of.is ∙ ap carried_left (sym are)))
 
   -- before the first one
-  pub units-begin : (old : Dwarf) → length old.units.units.items ≡ suc first → IsOfModule c c.functions c.told m → UnitsSoFar m.units.items old old m.units.items
+  pub units-begin : (old : Dwarf) → length old.units.units.items ≡ suc first → IsOfModule encoding.version c c.functions c.told m → UnitsSoFar m.units.items old old m.units.items
   units-begin old at of = record {
     made = [];
     added = sym (append-nil old.units.units.items);
@@ -303,10 +304,10 @@ module _ (fs : List Function) (told : ToldModule) (m : KeptModule) (i : ℕ) (r 
   units-left = drop_more m.units.items i r less ∙ ap (λ x. x ∷ drop (i + 1) m.units.items) (sym is)
 
   -- The next unit is one of the module, and its entries stand in the unit of the output that is added next.
-  pub unit-next : (c : Module) (size : ℕ) (big_endian : Bool) (first : ℕ) (old new : Dwarf) (places : List EmittedEntry) (os : List ℕ) → IsOfModule c fs told m → os ≡ carried_offsets m.kept r → 0 < length os
-      → places ≡ numbered_lists (suc first) (emitted m.kept m.units.items) → UnitsSoFar c m size big_endian first m.units.items old new (r ∷ drop (i + 1) m.units.items)
-      → IsUnitOf c fs told m first (length new.units.units.items) places os r
-  unit-next c size big_endian first old new places os of offsets some are so_far = record {
+  pub unit-next : (c : Module) (encoding : Encoding) (big_endian : Bool) (first : ℕ) (old new : Dwarf) (places : List EmittedEntry) (os : List ℕ) → IsOfModule encoding.version c fs told m → os ≡ carried_offsets m.kept r → 0 < length os
+      → places ≡ numbered_lists (suc first) (emitted m.kept m.units.items) → UnitsSoFar c m encoding big_endian first m.units.items old new (r ∷ drop (i + 1) m.units.items)
+      → IsUnitOf encoding.version c fs told m first (length new.units.units.items) places os r
+  unit-next c encoding big_endian first old new places os of offsets some are so_far = record {
     module_is = of;
     one = in-contains m.units.items r unit-there;
     offsets = offsets;
@@ -316,17 +317,17 @@ module _ (fs : List Function) (told : ToldModule) (m : KeptModule) (i : ℕ) (r 
   }
 
 -- The module's own functions are the transform's, and what is told of it is told.
-pub of-itself : (c : Module) (fs : List Function) (told : ToldModule) (m : KeptModule) → IsOfModule c fs told m → IsOfModule c c.functions c.told m
-of-itself c fs told m of = record { functions = refl; told_is = refl; version_is = of.version_is; is = of.is; bytes = of.bytes }
+pub of-itself : {version : ℕ} (c : Module) (fs : List Function) (told : ToldModule) (m : KeptModule) → IsOfModule version c fs told m → IsOfModule version c c.functions c.told m
+of-itself {version} c fs told m of = record { functions = refl; told_is = refl; version_is = of.version_is; is = of.is; bytes = of.bytes }
 
 -- Places that stand from a number on stand behind the module's synthetic unit.
 pub places-behind : (m : KeptModule) (number own : ℕ) (places : List EmittedEntry) → number ≡ suc own → places ≡ numbered_lists number (emitted m.kept m.units.items) → places ≡ numbered_lists (suc own) (emitted m.kept m.units.items)
 places-behind m number own places at are = are ∙ ap (λ n. numbered_lists n (emitted m.kept m.units.items)) at
 
 -- What is added by places is added by the same ones.
-pub added-at : (size : ℕ) (big_endian : Bool) (c : Module) (first : ℕ) (here there : List EmittedEntry) (u : Unit) (old new : Dwarf) → here ≡ there → AddsUnit size big_endian c first here u old new → AddsUnit size big_endian c first there u old new
-added-at size big_endian c first here there u old new same a = subst (λ ps. AddsUnit size big_endian c first ps u old new) same a
+pub added-at : (encoding : Encoding) (big_endian : Bool) (c : Module) (first : ℕ) (here there : List EmittedEntry) (u : Unit) (old new : Dwarf) → here ≡ there → AddsUnit encoding big_endian c first here u old new → AddsUnit encoding big_endian c first there u old new
+added-at encoding big_endian c first here there u old new same a = subst (λ ps. AddsUnit encoding big_endian c first ps u old new) same a
 
 -- References to the synthetic unit of a module, by what is told of the module.
-pub synthetic-refers : (told : ToldModule) (c : Module) (fs : List Function) (m : KeptModule) (first : ℕ) {context address : DebugInfoRef} → IsOfModule c fs told m → ReferToSynthetic first told.memory context address → ReferToSynthetic first c.told.memory context address
-synthetic-refers told c fs m first {context} {address} of refers = subst (λ (t : ToldModule). ReferToSynthetic first t.memory context address) (sym of.told_is) refers
+pub synthetic-refers : (told : ToldModule) (c : Module) (fs : List Function) (m : KeptModule) (first : ℕ) {version : ℕ} {context address : DebugInfoRef} → IsOfModule version c fs told m → ReferToSynthetic first told.memory context address → ReferToSynthetic first c.told.memory context address
+synthetic-refers told c fs m first {version} {context} {address} of refers = subst (λ (t : ToldModule). ReferToSynthetic first t.memory context address) (sym of.told_is) refers

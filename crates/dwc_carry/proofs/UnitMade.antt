@@ -3,6 +3,7 @@ use Rattle.std.proofs.Common.{◌≡◌, ℕ, ◌≤◌, List, [], ◌∷◌, �
 use Rattle.std.specs.Prelude.{◌==◌, ◌||◌, ◌&&◌, is_some, option_map, option_to_list, if◌then◌else◌, Result}
 use Rattle.std.specs.List.{filter, flat_map, list_any, find, AllZip}
 use Rattle.dwc_base.specs.declared.constants.TheConstants.{DW_AT_stmt_list}
+use Rattle.dwc_base.specs.declared.records.Encoding.{Encoding}
 use Rattle.dwc_base.specs.Reading.{◌>>=◌}
 use Rattle.dwc_base.specs.Sections.{Sections, Fault}
 use Rattle.dwc_base.specs.Units.{UnitHeader}
@@ -15,6 +16,7 @@ use Rattle.dwc_rules.specs.Carried.{Module}
 use Rattle.dwc_dwarf.specs.ReadUnits.{Unit, root, line_offset, table_of_root, table_of_unit, segments_of}
 use Rattle.dwc_rules.specs.Refusals.{Refusal, table_offset, lines_refusal, unit_refusal}
 use Rattle.dwc_base.specs.Listing.{first_of}
+use Rattle.dwc_output.specs.NewWidest.{widest_header_5}
 use Rattle.dwc_output.specs.Widest.{widest_header, widest_table}
 use Rattle.dwc_rules.specs.Drafts.{Goal, Draft}
 use Rattle.dwc_rules.specs.DraftForests.{settled_unit}
@@ -24,6 +26,7 @@ use Rattle.dwc_rules.specs.CarriedDrafts.{readable_table, source_of, unit_drafts
 use Rattle.dwc_rules.specs.ReachedEntries.{kept_refusals}
 use Rattle.dwc_rules.specs.EntryRules.{code_rules}
 use Rattle.dwc_carried.specs.Forests.{rules_of, drafts_of}
+use Rattle.dwc_carried.specs.WidestVersions.{widest_table_5}
 use Rattle.dwc_rules.specs.ModuleDrafts.{expressions_of}
 use Rattle.dwc_rules.specs.CarriedUnits.{kept_of}
 use Rattle.dwc_kept.specs.declared.kept_units.KeptModule.{KeptModule}
@@ -104,20 +107,25 @@ first-of_option None r is = is
 first-of_option (Some x) r is = is
 
 -- a line table is refused
-pub begun-refused : (c : Module) (fs : List Function) (told : ToldModule) (m : KeptModule) (first number : ℕ) (places : List EmittedEntry) (kept : List ℕ) (r : ReadUnit) → IsUnitOf c fs told m first number places kept r
+pub begun-refused : {version : ℕ} (c : Module) (fs : List Function) (told : ToldModule) (m : KeptModule) (first number : ℕ) (places : List EmittedEntry) (kept : List ℕ) (r : ReadUnit) → IsUnitOf version c fs told m first number places kept r
     → (e : DebugError) → RefusesReading (lines_refusal r.unit.sections r.unit.header r.line_table) e → RefusesReading (first_of (refusals_of c (unit_read c.sections r.unit.header))) e
-begun-refused c fs told m first number places kept r of e met =
+begun-refused {version} c fs told m first number places kept r of e met =
     let is = read-unit c m (of.module_is).is r (contains-in m.units.items r of.one) in
     let same : lines_refusal r.unit.sections r.unit.header r.line_table ≡ unit_refusal c.sections (unit_read c.sections r.unit.header) =
     ap (λ s. lines_refusal s r.unit.header r.line_table) is.sections ∙ ap (lines_refusal c.sections r.unit.header) is.lines in
     reading-more (lines_refusal r.unit.sections r.unit.header r.line_table) (first_of (refusals_of c (unit_read c.sections r.unit.header))) e
     (λ x at. first-behind (option_to_list (unit_refusal c.sections (unit_read c.sections r.unit.header))) (kept_refusals (rules_of c) (kept_of c) (unit_read c.sections r.unit.header)) x (first-of_option (unit_refusal c.sections (unit_read c.sections r.unit.header)) x (sym same ∙ at))) met
 
--- A program that carries a table is no longer than it at its widest.
+-- A program that carries a table is no longer than it at its widest, in version 4 and in version 5.
 table-widest : (fs : List Function) (t : LineTable) (size : ℕ) (g : GivenLines) → CarriesTable t fs size g → widest_table_for 4 g.address_size g ≤ widest_table fs (Ok (Some t))
 table-widest fs t size g h =
     let header : widest_header g.directories g.files ≡ widest_header t.header.directories t.files = ap₂ widest_header h.directories h.files in
     subst (λ o. widest_table_for 4 o g ≤ widest_table fs (Ok (Some t))) (sym h.address_size) (omega (arith, header, h.widest))
+
+table-widest-new : (fs : List Function) (t : LineTable) (size : ℕ) (g : GivenLines) → CarriesTable t fs size g → widest_table_for 5 g.address_size g ≤ widest_table_5 fs (Ok (Some t))
+table-widest-new fs t size g h =
+    let header : widest_header_5 g.directories g.files ≡ widest_header_5 t.header.directories t.files = ap₂ widest_header_5 h.directories h.files in
+    subst (λ o. widest_table_for 5 o g ≤ widest_table_5 fs (Ok (Some t))) (sym h.address_size) (omega (arith, header, h.widest))
 
 -- What is known of the line table of a carried unit, and of the program that carries it.
 record KnownTable (c : Module) (u : Unit) (lines : GivenLines) : Type 0 where
@@ -126,12 +134,13 @@ record KnownTable (c : Module) (u : Unit) (lines : GivenLines) : Type 0 where
   names : HasNamesOf t lines
   images : AllZip (IsImageOf c.functions) (filter (is_carried_segment c.functions) (segments_of t)) (given_segments lines)
   widest : widest_table_for 4 lines.address_size lines ≤ widest_table c.functions (Ok t)
+  widest_new : widest_table_for 5 lines.address_size lines ≤ widest_table_5 c.functions (Ok t)
   ended : lines.begun ≡ None
   sized : is_some t ≡ is_some lines.address_size
   there : (e : Entry) → root u ≡ Some e → (is_some t && has_lines e.attributes) ≡ is_some t
 
-module _ (registers : Registers) (k : CloneSource) (compile : Bool) (table : Option ℕ) (c : Module) (m : KeptModule) (first number : ℕ) (kept : List ℕ)
-    (of : IsUnitOf c k.transform.now (told_by registers k.module) m first number k.places.now kept (read_of k compile table)) where
+module _ (encoding : Encoding) (registers : Registers) (k : CloneSource) (compile : Bool) (table : Option ℕ) (c : Module) (m : KeptModule) (first number : ℕ) (kept : List ℕ)
+    (of : IsUnitOf encoding.version c k.transform.now (told_by registers k.module) m first number k.places.now kept (read_of k compile table)) where
   -- what is told of the module
   abbrev told : ToldModule
   told = told_by registers k.module
@@ -154,15 +163,15 @@ module _ (registers : Registers) (k : CloneSource) (compile : Bool) (table : Opt
   table-is : table ≡ table_offset (root u)
   table-is = (unit-is k compile table told c m first number kept of).lines
 
-  module _ (size : ℕ) (lines : GivenLines) where
+  module _ (lines : GivenLines) where
     -- the program is of the module's functions and sections
-    carried-there : CarriesNamed k.transform.now k.unit.now.sections h size table k.files lines → CarriesNamed c.functions c.sections h size (table_offset (root u)) k.files lines
+    carried-there : CarriesNamed k.transform.now k.unit.now.sections h encoding table k.files lines → CarriesNamed c.functions c.sections h encoding (table_offset (root u)) k.files lines
     carried-there carries =
-        subst (λ o. CarriesNamed c.functions c.sections h size o k.files lines) table-is
-        (subst (λ s. CarriesNamed c.functions s h size table k.files lines) same-sections
-        (subst (λ fs. CarriesNamed fs k.unit.now.sections h size table k.files lines) same-functions carries))
+        subst (λ o. CarriesNamed c.functions c.sections h encoding o k.files lines) table-is
+        (subst (λ s. CarriesNamed c.functions s h encoding table k.files lines) same-sections
+        (subst (λ fs. CarriesNamed fs k.unit.now.sections h encoding table k.files lines) same-functions carries))
 
-    from-lines : (o : Option ℕ) → table_offset (root u) ≡ o → CarriesNamed c.functions c.sections h size o k.files lines → KnownTable c u lines × AreFiles k.files 4 h.version (readable_table (table_of_unit c.sections u))
+    from-lines : (o : Option ℕ) → table_offset (root u) ≡ o → CarriesNamed c.functions c.sections h encoding o k.files lines → KnownTable c u lines × AreFiles k.files encoding.version h.version (readable_table (table_of_unit c.sections u))
     unfolding named
     from-lines None is carries =
         let read : table_of_unit c.sections u ≡ Ok None = table-named c.sections u ∙ ap (named c.sections h) is in (
@@ -172,11 +181,12 @@ module _ (registers : Registers) (k : CloneSource) (compile : Bool) (table : Opt
             names = carries.1;
             images = subst (λ g. AllZip (IsImageOf c.functions) [] (given_segments g)) (sym carries.1) tt;
             widest = subst (λ (g : GivenLines). widest_table_for 4 g.address_size g ≤ 0) (sym carries.1) (omega arith);
+            widest_new = subst (λ (g : GivenLines). widest_table_for 5 g.address_size g ≤ 0) (sym carries.1) (omega arith);
             ended = ap (λ (g : GivenLines). g.begun) carries.1;
             sized = sym (ap (λ (g : GivenLines). is_some g.address_size) carries.1);
             there = λ e at. refl;
           },
-          subst (λ t. AreFiles k.files 4 h.version (readable_table t)) (sym read) carries.0,
+          subst (λ t. AreFiles k.files encoding.version h.version (readable_table t)) (sym read) carries.0,
         )
     from-lines (Some offset) is carries =
         let t = carries.table in
@@ -184,23 +194,24 @@ module _ (registers : Registers) (k : CloneSource) (compile : Bool) (table : Opt
           record {
             t = Some t;
             is_read = read;
-            names = record { size = size; sized = carries.carries.address_size; directories = carries.carries.directories; files = carries.carries.files };
+            names = record { size = encoding.address_size; sized = carries.carries.address_size; directories = carries.carries.directories; files = carries.carries.files };
             images = carries.carries.images;
-            widest = table-widest c.functions t size lines carries.carries;
+            widest = table-widest c.functions t encoding.address_size lines carries.carries;
+            widest_new = table-widest-new c.functions t encoding.address_size lines carries.carries;
             ended = carries.carries.ended;
             sized = sym (ap is_some carries.carries.address_size);
             there = λ e at. offset-has e offset (sym (ap table_offset at) ∙ is);
           },
-          subst (λ x. AreFiles k.files 4 h.version (readable_table x)) (sym read) carries.files_are,
+          subst (λ x. AreFiles k.files encoding.version h.version (readable_table x)) (sym read) carries.files_are,
         )
 
-    pub files-known : CarriesNamed k.transform.now k.unit.now.sections h size table k.files lines → AreFiles k.files (source_of (kept_of c) u).output_version h.version (source_of (kept_of c) u).table
+    pub files-known : CarriesNamed k.transform.now k.unit.now.sections h encoding table k.files lines → AreFiles k.files (source_of (kept_of c) u).output_version h.version (source_of (kept_of c) u).table
     unfolding source_of kept_module
     files-known carries =
         subst (λ n. AreFiles k.files n h.version (readable_table (table_of_unit c.sections u))) (sym (of.module_is).version_is)
         (from-lines (table_offset (root u)) refl (carried-there carries)).1
 
-    table-known : CarriesNamed k.transform.now k.unit.now.sections h size table k.files lines → KnownTable c u lines
+    table-known : CarriesNamed k.transform.now k.unit.now.sections h encoding table k.files lines → KnownTable c u lines
     table-known carries = (from-lines (table_offset (root u)) refl (carried-there carries)).0
 
   -- ---- what is to be said, and what is refused
@@ -247,10 +258,10 @@ module _ (registers : Registers) (k : CloneSource) (compile : Bool) (table : Opt
 
   -- ---- the unit
 
-  module _ (size : ℕ) (old new : List (List ℕ)) (begun made : GivenUnit) (versioned : begun.version ≡ 4) (sized : begun.address_size ≡ size) (carries : CarriesNamed k.transform.now k.unit.now.sections h size table k.files begun.lines)
+  module _ (old new : List (List ℕ)) (begun made : GivenUnit) (versioned : begun.version ≡ encoding.version) (sized : begun.address_size ≡ encoding.address_size) (carries : CarriesNamed k.transform.now k.unit.now.sections h encoding table k.files begun.lines)
       (refers : ReferToSynthetic first c.told.memory k.vmctx_ptr k.wasm_ptr) (cloned : IsCloned registers k number (source_of (kept_of c) u) es old new begun made) where
     known : KnownTable c u begun.lines
-    known = table-known size begun.lines carries
+    known = table-known begun.lines carries
 
     root-tree : (x : Entry) (others : List Entry) → IsTree (depths_of (x ∷ others)) → x.depth ≡ 0
     root-tree x others tree = tree.0
@@ -280,7 +291,7 @@ module _ (registers : Registers) (k : CloneSource) (compile : Bool) (table : Opt
         ∙ known.sized
         ∙ sym (ap (λ (g : GivenLines). is_some g.address_size) cloned.lines)
 
-    pub made-of : CarriesUnit size k.big_endian c first k.places.now new number u made
+    pub made-of : CarriesUnit encoding k.big_endian c first k.places.now new number u made
     made-of = record {
       has_lines = record {
         table = known.t;
@@ -288,6 +299,7 @@ module _ (registers : Registers) (k : CloneSource) (compile : Bool) (table : Opt
         names = subst (HasNamesOf known.t) (sym cloned.lines) known.names;
         images = subst (λ g. AllZip (IsImageOf c.functions) (filter (is_carried_segment c.functions) (segments_of known.t)) (given_segments g)) (sym cloned.lines) known.images;
         widest = subst (λ (g : GivenLines). widest_table_for 4 g.address_size g ≤ widest_table c.functions (table_of_unit c.sections u)) (sym cloned.lines) (subst (λ t. widest_table_for 4 begun.lines.address_size begun.lines ≤ widest_table c.functions t) (sym known.is_read) known.widest);
+        widest_new = subst (λ (g : GivenLines). widest_table_for 5 g.address_size g ≤ widest_table_5 c.functions (table_of_unit c.sections u)) (sym cloned.lines) (subst (λ t. widest_table_for 5 begun.lines.address_size begun.lines ≤ widest_table_5 c.functions t) (sym known.is_read) known.widest_new);
       };
       depths = draft_depths (clone_drafts registers k source es);
       order = cloned.order;

@@ -161,9 +161,9 @@ compiled kept os h false is some = absurd (omega (arith, some, ap length is))
 -- ---- one unit of a module
 
 -- The entries at the offsets of a unit's kept entries are these.
-pub picked-of : (fs : List Function) (told : ToldModule) (c : Module) (m : KeptModule) (first number : ℕ) (places : List EmittedEntry) (kept : List ℕ) (r : ReadUnit) → IsUnitOf c fs told m first number places kept r
+pub picked-of : {version : ℕ} (fs : List Function) (told : ToldModule) (c : Module) (m : KeptModule) (first number : ℕ) (places : List EmittedEntry) (kept : List ℕ) (r : ReadUnit) → IsUnitOf version c fs told m first number places kept r
     → picked kept (entries r.unit.sections r.unit.header).items ≡ kept_of_unit m.kept (unit_read c.sections r.unit.header)
-picked-of fs told c m first number places kept r of =
+picked-of {version} fs told c m first number places kept r of =
     let is = (of.module_is).is in
     let there = contains-in m.units.items r of.one in
     let offsets = (compiled m.kept kept r.unit.header r.is_compile_unit of.offsets of.some).1 ∙ read-within c m is r there in
@@ -175,8 +175,8 @@ picked-of fs told c m first number places kept r of =
 abbrev pub read_of : CloneSource → Bool → Option ℕ → ReadUnit
 read_of k compile table = record { unit = k.unit.now; is_compile_unit = compile; line_table = table }
 
-module _ (k : CloneSource) (compile : Bool) (table : Option ℕ) (told : ToldModule) (c : Module) (m : KeptModule) (first number : ℕ) (kept : List ℕ)
-    (of : IsUnitOf c k.transform.now told m first number k.places.now kept (read_of k compile table)) where
+module _ {version : ℕ} (k : CloneSource) (compile : Bool) (table : Option ℕ) (told : ToldModule) (c : Module) (m : KeptModule) (first number : ℕ) (kept : List ℕ)
+    (of : IsUnitOf version c k.transform.now told m first number k.places.now kept (read_of k compile table)) where
   abbrev pub unit_of : Unit
   unit_of = unit_read c.sections k.unit.now.header
 
@@ -308,7 +308,7 @@ module _ (k : CloneSource) (compile : Bool) (table : Option ℕ) (told : ToldMod
     }
 
 -- The entries of a unit of a module were read.
-pub entries-of-read : (c : Module) (fs : List Function) (told : ToldModule) (m : KeptModule) (r : ReadUnit) → IsOfModule c fs told m → IsIn r m.units.items → All IsReadEntry (entries r.unit.sections r.unit.header).items
-entries-of-read c fs told m r of i =
+pub entries-of-read : {version : ℕ} (c : Module) (fs : List Function) (told : ToldModule) (m : KeptModule) (r : ReadUnit) → IsOfModule version c fs told m → IsIn r m.units.items → All IsReadEntry (entries r.unit.sections r.unit.header).items
+entries-of-read {version} c fs told m r of i =
     subst (λ s. All IsReadEntry (entries s r.unit.header).items) (sym (read-unit c m of.is r i).sections)
     (all-in (λ h. All IsReadEntry (entries c.sections h).items) (unit_headers c.sections).items r.unit.header (entries-read c.sections of.bytes) (header-in c.sections (unit_headers c.sections).items m.units.items r of.is.units i))

@@ -34,7 +34,7 @@ use Rattle.dwc_carry.proofs.SimulatedMade.{begins-more}
 -- ---- units
 
 pub extends-not : (u : GivenUnit) → IsDense u → Extends u u
-extends-not u dense = record { dense = dense; longer = omega arith; begins = λ size lines root begins. begins }
+extends-not u dense = record { dense = dense; longer = omega arith; begins = λ encoding lines root begins. begins }
 
 pub extends-on : (u v w : GivenUnit) → Extends u v → Extends v w → Extends u w
 extends-on u v w first second =
@@ -43,7 +43,7 @@ extends-on u v w first second =
     record {
       dense = second.dense;
       longer = omega (arith, low, high);
-      begins = λ size lines root begins. second.begins size lines root (first.begins size lines root begins);
+      begins = λ encoding lines root begins. second.begins encoding lines root (first.begins encoding lines root begins);
     }
 
 pub extends-entry : (e : Addition) (u v : GivenUnit) → IsDense u → v ≡ with_entry e u → Extends u v
@@ -53,7 +53,7 @@ extends-entry e u v dense is =
     record {
       dense = entry-dense u e dense;
       longer = omega (arith, counted);
-      begins = λ size lines root begins. begins-more size lines root e u begins;
+      begins = λ encoding lines root begins. begins-more encoding lines root e u begins;
     }
 
 pub extends-context : (expected : Result (List Location) BuildRefusal) (parent : ℕ) (type : DebugInfoRef) (texts : List (List ℕ)) (u v : GivenUnit) → IsDense u → parent < length u.additions → HasContext expected parent type texts u v → Extends u v

@@ -1,6 +1,7 @@
 -- The units of the output that carry those of a module.
 use Rattle.std.specs.Prelude.{◌≡◌, ℕ, suc, ◌≤◌, ◌<◌, List, [], ◌∷◌, ◌++◌, map, length, Bool, Some, Option, Result, Contains, All}
 use Rattle.std.specs.List.{flat_map}
+use Rattle.dwc_base.specs.declared.records.Encoding.{Encoding}
 use Rattle.dwc_base.specs.declared.section_name.SectionName.TheVariants.{Info}
 use Rattle.dwc_native.specs.Functions.{Function}
 use Rattle.dwc_native.specs.Compiled.{ToldModule}
@@ -39,18 +40,18 @@ use Rattle.dwc_carry.specs.ModulePlaces.{carried_offsets, emitted, numbered_list
 -- ---- a module
 
 -- The units and the kept entries that were read are those of a module with some functions, of which something is told, whose `.debug_info`
--- is bytes.
-pub record IsOfModule (c : Module) (fs : List Function) (told : ToldModule) (m : KeptModule) : Type 0 where
+-- is bytes, and which is carried to a version.
+pub record IsOfModule (version : ℕ) (c : Module) (fs : List Function) (told : ToldModule) (m : KeptModule) : Type 0 where
   pub functions : c.functions ≡ fs
   pub told_is : c.told ≡ told
-  pub version_is : c.version ≡ 4
+  pub version_is : c.version ≡ version
   pub is : IsKeptModule c.functions c.sections m
   pub bytes : All (λ b. b < 256) (c.sections.bytes Info)
 
 -- They are those of some module.
-pub record HasModule (fs : List Function) (told : ToldModule) (m : KeptModule) : Type 0 where
+pub record HasModule (version : ℕ) (fs : List Function) (told : ToldModule) (m : KeptModule) : Type 0 where
   pub of : Module
-  pub is : IsOfModule of fs told m
+  pub is : IsOfModule version of fs told m
 
 -- what is refused of a carried unit of a module: its line table, and then its kept entries
 abbrev pub refusals_of : Module → Unit → List Refusal
@@ -64,8 +65,8 @@ wanted_of big_endian c first u = settled_unit (place_of_goal first (module_draft
 
 -- A unit that was read is one of a module, some offsets are those of its kept entries, and places are those of the module, behind its own
 -- unit, where the unit's entries stand in the unit of a number.
-pub record IsUnitOf (c : Module) (fs : List Function) (told : ToldModule) (m : KeptModule) (first number : ℕ) (places : List EmittedEntry) (kept : List ℕ) (r : ReadUnit) : Type 0 where
-  pub module_is : IsOfModule c fs told m
+pub record IsUnitOf (version : ℕ) (c : Module) (fs : List Function) (told : ToldModule) (m : KeptModule) (first number : ℕ) (places : List EmittedEntry) (kept : List ℕ) (r : ReadUnit) : Type 0 where
+  pub module_is : IsOfModule version c fs told m
   pub one : Contains m.units.items r
   pub offsets : kept ≡ carried_offsets m.kept r
   pub some : 0 < length kept
@@ -75,7 +76,7 @@ pub record IsUnitOf (c : Module) (fs : List Function) (told : ToldModule) (m : K
 -- A unit to be written, of a number, carries a unit of a module, whose synthetic unit is the first of the module, where the offsets of kept
 -- entries have numbers: it has the lines of that; and what its kept entries become was added in file order, under some numbers, and says
 -- with these what it is to say.
-pub record CarriesUnit (size : ℕ) (big_endian : Bool) (c : Module) (first : ℕ) (places : List EmittedEntry) (table : List (List ℕ)) (number : ℕ) (u : Unit) (made : GivenUnit) : Type 0 where
+pub record CarriesUnit (encoding : Encoding) (big_endian : Bool) (c : Module) (first : ℕ) (places : List EmittedEntry) (table : List (List ℕ)) (number : ℕ) (u : Unit) (made : GivenUnit) : Type 0 where
   pub has_lines : HasLinesOf (record { module_of = c; unit = u }) made
   pub depths : List ℕ
   pub order : IsInOrder depths made
@@ -87,37 +88,37 @@ pub record CarriesUnit (size : ℕ) (big_endian : Bool) (c : Module) (first : �
   pub numbered : AreNumbered goals number (drafts_of big_endian (record { module_of = c; unit = u })) numbers made
   pub says : tree_meant table number depths made.additions ≡ settled_unit goals (drafts_of big_endian (record { module_of = c; unit = u }))
   pub texts : All (λ e. All (λ n. n < length table) (texts_of_attributes e.attributes)) made.additions
-  pub writable : IsWritable 4 size (ordered made)
+  pub writable : IsWritable encoding.version encoding.address_size (ordered made)
 
 -- A unit is added that carries it, and the table of texts has grown.
-pub record AddsUnit (size : ℕ) (big_endian : Bool) (c : Module) (first : ℕ) (places : List EmittedEntry) (u : Unit) (old new : Dwarf) : Type 0 where
+pub record AddsUnit (encoding : Encoding) (big_endian : Bool) (c : Module) (first : ℕ) (places : List EmittedEntry) (u : Unit) (old new : Dwarf) : Type 0 where
   pub made : GivenUnit
   pub added : new.units.units.items ≡ old.units.units.items ++ made ∷ []
   pub grows : Grows old.strings new.strings
-  pub is : CarriesUnit size big_endian c first places new.strings (length old.units.units.items) u made
+  pub is : CarriesUnit encoding big_endian c first places new.strings (length old.units.units.items) u made
 
 -- It is added, and the line table that was carried last is known; or the first refusal is answered.
-abbrev pub GivesUnit : ℕ → Bool → Module → ℕ → List EmittedEntry → Unit → Dwarf → Dwarf → Result (Option LastLines) DebugError → Type 0
-GivesUnit size big_endian c first places u old new result =
-    ReadsOr (λ last. AddsUnit size big_endian c first places u old new × IsLast c.functions size c.sections new.units.units.items last) (first_of (refusals_of c u)) result
+abbrev pub GivesUnit : Encoding → Bool → Module → ℕ → List EmittedEntry → Unit → Dwarf → Dwarf → Result (Option LastLines) DebugError → Type 0
+GivesUnit encoding big_endian c first places u old new result =
+    ReadsOr (λ last. AddsUnit encoding big_endian c first places u old new × IsLast c.functions encoding c.sections new.units.units.items last) (first_of (refusals_of c u)) result
 
 -- ---- all of a module
 
 -- Units, of which the first has a number, carry units of a module, one to one and in order.
-abbrev pub CarryUnits : ℕ → Bool → Module → ℕ → List EmittedEntry → List (List ℕ) → ℕ → List Unit → List GivenUnit → Type 0
-CarryUnits size big_endian c first places table number [] [] = Prim.Unit {0}
-CarryUnits size big_endian c first places table number (u ∷ us) (g ∷ gs) = CarriesUnit size big_endian c first places table number u g × CarryUnits size big_endian c first places table (suc number) us gs
-CarryUnits size big_endian c first places table number _ _ = ⊥
+abbrev pub CarryUnits : Encoding → Bool → Module → ℕ → List EmittedEntry → List (List ℕ) → ℕ → List Unit → List GivenUnit → Type 0
+CarryUnits encoding big_endian c first places table number [] [] = Prim.Unit {0}
+CarryUnits encoding big_endian c first places table number (u ∷ us) (g ∷ gs) = CarriesUnit encoding big_endian c first places table number u g × CarryUnits encoding big_endian c first places table (suc number) us gs
+CarryUnits encoding big_endian c first places table number _ _ = ⊥
 
 -- Units are added that carry the carried units of a module, one to one and in order, and the table of texts has grown.
-pub record AddsUnits (size : ℕ) (big_endian : Bool) (c : Module) (first : ℕ) (old new : Dwarf) : Type 0 where
+pub record AddsUnits (encoding : Encoding) (big_endian : Bool) (c : Module) (first : ℕ) (old new : Dwarf) : Type 0 where
   pub made : List GivenUnit
   pub added : new.units.units.items ≡ old.units.units.items ++ made
   pub grows : Grows old.strings new.strings
   pub counted : length made ≡ length (carried_units_of c)
   pub each : (at : ℕ → ℕ → Option (ℕ × ℕ)) → LeadsTo at (length old.units.units.items) made → ((place : ℕ) → place < length (synthetic_unit c.told.names.set_memory c.told.memory) → at first place ≡ Some (first, place))
-      → AreMadeOf at size new.strings (length old.units.units.items) (map carried_unit (carried_units_of c)) (map (wanted_of big_endian c first) (carried_in (kept_of c))) made
+      → AreMadeOf at encoding new.strings (length old.units.units.items) (map carried_unit (carried_units_of c)) (map (wanted_of big_endian c first) (carried_in (kept_of c))) made
 
 -- They are added, or the first refusal is answered.
-abbrev pub GivesUnits : ℕ → Bool → Module → ℕ → Dwarf → Dwarf → Result (Prim.Unit {0}) DebugError → Type 0
-GivesUnits size big_endian c first old new result = ReadsOr (λ done. AddsUnits size big_endian c first old new) (first_of (flat_map (refusals_of c) (carried_in (kept_of c)))) result
+abbrev pub GivesUnits : Encoding → Bool → Module → ℕ → Dwarf → Dwarf → Result (Prim.Unit {0}) DebugError → Type 0
+GivesUnits encoding big_endian c first old new result = ReadsOr (λ done. AddsUnits encoding big_endian c first old new) (first_of (flat_map (refusals_of c) (carried_in (kept_of c)))) result

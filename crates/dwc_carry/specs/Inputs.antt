@@ -2,6 +2,7 @@
 use Rattle.std.specs.Prelude.{ℕ, suc, ◌+◌, List, [], ◌∷◌, ◌++◌, map, length, Option, None, option_map}
 use Rattle.std.specs.List.{flat_map}
 use Rattle.std.specs.Option.{option_or}
+use Rattle.dwc_base.specs.declared.records.Encoding.{Encoding}
 use Rattle.dwc_base.specs.declared.records.Endian.{Endian}
 use Rattle.dwc_base.specs.declared.records.MapFault.{MapFault}
 use Rattle.dwc_base.specs.declared.translation.ModuleTranslation.{ModuleTranslation}
@@ -30,17 +31,17 @@ told_from registers names place number [] offsets = []
 told_from registers names place number (fs ∷ fss) [] = []
 told_from registers names place number (fs ∷ fss) (offset ∷ offsets) = told_module place number fs offset registers names ∷ told_from registers names (suc place) (number + length fs) fss offsets
 
--- a module of a translation and of the functions compiled from it, of which the first has a number, with what is told of it; what is
--- written has version 4
-abbrev pub module_view : ℕ → ModuleTranslation → List Compiled → ToldModule → Module
-module_view number t fs told = record { sections = translation_sections t; functions = functions_of t.code_section_offset number (map address_map_view fs); told = told; file = told_file t; compressed = t.compressed; version = 4 }
+-- a module of a translation and of the functions compiled from it, of which the first has a number, with what is told of it, that
+-- is carried to a version
+abbrev pub module_view : ℕ → ℕ → ModuleTranslation → List Compiled → ToldModule → Module
+module_view version number t fs told = record { sections = translation_sections t; functions = functions_of t.code_section_offset number (map address_map_view fs); told = told; file = told_file t; compressed = t.compressed; version = version }
 
--- modules in order, whose functions are numbered over all of them from a number on
-abbrev pub modules_from : ℕ → List ModuleTranslation → List (List Compiled) → List ToldModule → List Module
-modules_from number [] fss told = []
-modules_from number (t ∷ ts) [] told = []
-modules_from number (t ∷ ts) (fs ∷ fss) [] = []
-modules_from number (t ∷ ts) (fs ∷ fss) (m ∷ told) = module_view number t fs m ∷ modules_from (number + length fs) ts fss told
+-- modules in order, carried to a version, whose functions are numbered over all of them from a number on
+abbrev pub modules_from : ℕ → ℕ → List ModuleTranslation → List (List Compiled) → List ToldModule → List Module
+modules_from version number [] fss told = []
+modules_from version number (t ∷ ts) [] told = []
+modules_from version number (t ∷ ts) (fs ∷ fss) [] = []
+modules_from version number (t ∷ ts) (fs ∷ fss) (m ∷ told) = module_view version number t fs m ∷ modules_from version (number + length fs) ts fss told
 
 -- the functions of modules, which are numbered over all of them from a number on
 abbrev pub functions_from : ℕ → List ModuleTranslation → List (List Compiled) → List (List Function)
@@ -54,7 +55,7 @@ names_of c = record { set_memory = c.set_memory; resolve_memory = c.resolve_memo
 
 -- the modules of a compilation
 abbrev pub modules_of : Registers → CompilationValue → List Module
-modules_of registers c = modules_from 0 c.translations c.functions (told_from registers (names_of c) 0 0 c.functions c.memory_offsets)
+modules_of registers c = modules_from c.tunables.dwarf_version 0 c.translations c.functions (told_from registers (names_of c) 0 0 c.functions c.memory_offsets)
 
 -- A compilation behind the path of its simulated unit: the number of the next generated name has risen where one was made.
 abbrev pub counted_behind : Registers → CompilationValue → CompilationValue
@@ -63,7 +64,11 @@ counted_behind registers c = record c { next_id = next_id_behind c.next_id (modu
 -- the input of a compilation for a target of a byte order, an address size, numbers of registers, and what the frames of all functions
 -- share, if it has frames
 abbrev pub input_of : Endian → ℕ → Registers → Option CommonEntry → CompilationValue → Compilation
-input_of order pointer_bytes registers entry c = record { order = order; pointer_bytes = pointer_bytes; modules = modules_of registers c; next_id = c.next_id; common_entry = entry; version = 4 }
+input_of order pointer_bytes registers entry c = record { order = order; pointer_bytes = pointer_bytes; modules = modules_of registers c; next_id = c.next_id; common_entry = entry; version = c.tunables.dwarf_version }
+
+-- how the units of the output of an input spell their numbers
+abbrev pub encoding_of : Compilation → Encoding
+encoding_of c = record { version = c.version; address_size = c.pointer_bytes }
 
 -- the first bad map of modules from a place on: the place of its module, that of its function, and the first rule it breaks
 abbrev pub bad_map_from : ℕ → List ModuleTranslation → List (List Compiled) → Option (ℕ × (ℕ × MapFault))

@@ -1,6 +1,7 @@
 -- The unit for functions without debugging information, while its entries are added one behind another in file order.
 use Rattle.std.specs.Prelude.{◌≡◌, ℕ, ◌+◌, ◌<◌, List, [], ◌∷◌, ◌++◌, length, All, Bool, Option, Some, None}
 use Rattle.std.specs.List.{filter_map, flat_map}
+use Rattle.dwc_base.specs.declared.records.Encoding.{Encoding}
 use Rattle.dwc_rules.specs.Carried.{Module}
 use Rattle.dwc_carried.specs.DefinedFunctions.{DefinedFunction}
 use Rattle.dwc_rules.specs.Drafts.{Draft}
@@ -56,10 +57,10 @@ pub record HasModules (translated : ℕ → Bool) (number : ℕ) (pointers : Lis
 
 -- ---- what does not change while entries are added
 
--- A unit is of version 4, has an address size and a line program, and begins with a root.
-pub record BeginsWith (size : ℕ) (lines : GivenLines) (root : Addition) (u : GivenUnit) : Type 0 where
-  pub version_is : u.version ≡ 4
-  pub size_is : u.address_size ≡ size
+-- A unit has an encoding and a line program, and begins with a root.
+pub record BeginsWith (encoding : Encoding) (lines : GivenLines) (root : Addition) (u : GivenUnit) : Type 0 where
+  pub version_is : u.version ≡ encoding.version
+  pub size_is : u.address_size ≡ encoding.address_size
   pub lines_are : u.lines ≡ lines
   pub others : List Addition
   pub is : u.additions ≡ root ∷ others

@@ -1,6 +1,7 @@
 -- The unit for functions without debugging information, added behind those of all modules.
 use Rattle.std.specs.Prelude.{◌≡◌, ℕ, ◌+◌, ◌%◌, ◌^◌, ◌<◌, Bool, if◌then◌else◌, List, [], ◌∷◌, ◌++◌, map, length, Option, None, option_to_list, Result}
 use Rattle.std.specs.BTreeSet.{BTreeSet}
+use Rattle.dwc_base.specs.declared.records.Encoding.{Encoding}
 use Rattle.dwc_rules.specs.Carried.{Module}
 use Rattle.dwc_native.specs.Functions.{Function}
 use Rattle.dwc_base.specs.Listing.{first_of}
@@ -49,10 +50,10 @@ AreTranslated ms translated = (n : ℕ) → is_noted translated n ≡ is_begun m
 
 -- A unit has the line program of some simulated functions and begins with the root of a path, whose range list has their code, and the
 -- types of numbers.
-pub record IsTyped (size : ℕ) (path : List ℕ) (fs : List (ℕ × Function)) (texts : List (List ℕ)) (u : GivenUnit) : Type 0 where
+pub record IsTyped (encoding : Encoding) (path : List ℕ) (fs : List (ℕ × Function)) (texts : List (List ℕ)) (u : GivenUnit) : Type 0 where
   pub names : RootTexts
   pub list : RangeList
-  pub begins : BeginsWith size (simulated_program size (path_name path) fs) (simulated_root_addition names list) u
+  pub begins : BeginsWith encoding (simulated_program encoding.address_size (path_name path) fs) (simulated_root_addition names list) u
   pub dense : IsDense u
   pub some : 0 < length u.additions
   pub simulated : (number : ℕ) → IsSimulated number texts (simulated_root path (intervals_of fs) ∷ base_types) u
@@ -63,15 +64,15 @@ GivesEntries translated number whole ms after new result = ReadsOr (λ done. IsS
 
 -- A unit of a path says the entries of modules, whatever its number, with references to the types of pointers to their contexts, and has
 -- their lines, by the numbers that are translated; the table of texts has grown.
-pub record IsSimulatedUnit (translated : ℕ → Bool) (size : ℕ) (path : List ℕ) (ms : List Module) (refs : List DebugInfoRef) (before after : List (List ℕ)) (u : GivenUnit) : Type 0 where
+pub record IsSimulatedUnit (translated : ℕ → Bool) (encoding : Encoding) (path : List ℕ) (ms : List Module) (refs : List DebugInfoRef) (before after : List (List ℕ)) (u : GivenUnit) : Type 0 where
   pub grows : Grows before after
   pub lines : HasSimulatedLines (path_name path) (simulated_in_files translated ms) u
   pub simulated : (number : ℕ) → IsSimulated number after (simulated_unit translated path number (map reference_meant refs) ms) u
-  pub writable : IsWritable 4 size (ordered u)
+  pub writable : IsWritable encoding.version encoding.address_size (ordered u)
 
 -- It is made, or the first refusal of their variables is answered.
-abbrev pub GivesUnit : (ℕ → Bool) → ℕ → List ℕ → List Module → List DebugInfoRef → List (List ℕ) → List (List ℕ) → Result GivenUnit DebugError → Type 0
-GivesUnit translated size path ms refs before after result = ReadsOr (IsSimulatedUnit translated size path ms refs before after) (first_of (simulated_refusals translated ms)) result
+abbrev pub GivesUnit : (ℕ → Bool) → Encoding → List ℕ → List Module → List DebugInfoRef → List (List ℕ) → List (List ℕ) → Result GivenUnit DebugError → Type 0
+GivesUnit translated encoding path ms refs before after result = ReadsOr (IsSimulatedUnit translated encoding path ms refs before after) (first_of (simulated_refusals translated ms)) result
 
 -- A path is that of the unit of the modules of a compilation, for any target, and has no zero byte.
 abbrev pub IsPathOf : CompilationValue → List ℕ → Type 0
@@ -89,13 +90,13 @@ referred at refs = map (renumbered at) (map reference_meant refs)
 
 -- The unit is added, where there is a module, that is to say its tree, with references to the types of pointers to contexts, and has its
 -- lines; the table of texts has grown.
-pub record AddsSimulatedUnit (translated : ℕ → Bool) (size next_id : ℕ) (ms : List Module) (refs : List DebugInfoRef) (old new : List GivenUnit) (before after : List (List ℕ)) : Type 0 where
+pub record AddsSimulatedUnit (translated : ℕ → Bool) (encoding : Encoding) (next_id : ℕ) (ms : List Module) (refs : List DebugInfoRef) (old new : List GivenUnit) (before after : List (List ℕ)) : Type 0 where
   pub made : List GivenUnit
   pub added : new ≡ old ++ made
   pub grows : Grows before after
   pub each : (at : ℕ → ℕ → Option (ℕ × ℕ)) → LeadsTo at (length old) made
-      → AreMadeOf at size after (length old) (simulated_wanted translated next_id ms) (map (settled_unit (λ goal. None)) (option_to_list (simulated_drafts_at translated next_id (length old) (referred at refs) ms))) made
+      → AreMadeOf at encoding after (length old) (simulated_wanted translated next_id ms) (map (settled_unit (λ goal. None)) (option_to_list (simulated_drafts_at translated next_id (length old) (referred at refs) ms))) made
 
 -- It is added, or the first refusal is answered.
-abbrev pub GivesSimulatedUnit : (ℕ → Bool) → ℕ → ℕ → List Module → List DebugInfoRef → List GivenUnit → List GivenUnit → List (List ℕ) → List (List ℕ) → Result (Unit {0}) DebugError → Type 0
-GivesSimulatedUnit translated size next_id ms refs old new before after result = ReadsOr (λ done. AddsSimulatedUnit translated size next_id ms refs old new before after) (first_of (simulated_unit_refusals translated next_id ms)) result
+abbrev pub GivesSimulatedUnit : (ℕ → Bool) → Encoding → ℕ → List Module → List DebugInfoRef → List GivenUnit → List GivenUnit → List (List ℕ) → List (List ℕ) → Result (Unit {0}) DebugError → Type 0
+GivesSimulatedUnit translated encoding next_id ms refs old new before after result = ReadsOr (λ done. AddsSimulatedUnit translated encoding next_id ms refs old new before after) (first_of (simulated_unit_refusals translated next_id ms)) result

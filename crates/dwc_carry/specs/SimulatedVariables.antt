@@ -1,6 +1,7 @@
 -- The parameters and variables of a simulated function, as they are added below it.
 use Rattle.std.specs.Prelude.{◌≡◌, ℕ, ◌≤◌, List, [], map, length, if◌then◌else◌, Option, Some, Result, Ok, Err}
 use Rattle.std.specs.List.{flat_map}
+use Rattle.dwc_base.specs.declared.records.Encoding.{Encoding}
 use Rattle.dwc_base.specs.declared.constants.TheConstants.{DW_TAG_formal_parameter, DW_TAG_variable}
 use Rattle.dwc_base.specs.declared.faults.Limit.TheVariants.{Jump}
 use Rattle.dwc_native.specs.BuiltExpressions.{BuildRefusal}
@@ -85,7 +86,7 @@ local_tag_of locals n = if is_parameter locals n then DW_TAG_formal_parameter el
 pub record Extends (old new : GivenUnit) : Type 0 where
   pub dense : IsDense new
   pub longer : length old.additions ≤ length new.additions
-  pub begins : (size : ℕ) (lines : GivenLines) (root : Addition) → BeginsWith size lines root old → BeginsWith size lines root new
+  pub begins : (encoding : Encoding) (lines : GivenLines) (root : Addition) → BeginsWith encoding lines root old → BeginsWith encoding lines root new
 
 -- The entries of some labels are added, of which none is refused, and others are left: with these, what is refused first is that of all.
 pub record LeftVariables (number : ℕ) (pointer : TreeValue) (m : Module) (d : DefinedFunction) (before : List Draft) (left : List ℕ) (place : ℕ) (total : Option Refusal) (texts : List (List ℕ)) (u : GivenUnit) : Type 0 where

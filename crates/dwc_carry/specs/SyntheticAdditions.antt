@@ -1,5 +1,6 @@
 -- The entries of a module's synthetic unit, as they are added: their texts by numbers, and the places of their parents.
 use Rattle.std.specs.Prelude.{ℕ, ◌+◌, List, [], ◌∷◌, ◌++◌, length, true, None, codes}
+use Rattle.dwc_base.specs.declared.records.Encoding.{Encoding}
 use Rattle.dwc_base.specs.declared.constants.TheConstants.{DW_AT_artificial, DW_AT_byte_size, DW_AT_data_member_location, DW_AT_encoding, DW_AT_language, DW_AT_linkage_name, DW_AT_name, DW_AT_producer, DW_AT_type, DW_ATE_unsigned, DW_FORM_data1, DW_FORM_data2, DW_FORM_data4, DW_FORM_udata, DW_LANG_C11, DW_TAG_base_type, DW_TAG_compile_unit, DW_TAG_formal_parameter, DW_TAG_member, DW_TAG_pointer_type, DW_TAG_structure_type, DW_TAG_subprogram}
 use Rattle.dwc_native.specs.Compiled.{Memory, no_memory, defined, imported}
 use Rattle.dwc_rules.specs.SyntheticUnit.{memory_members}
@@ -71,5 +72,5 @@ abbrev pub synthetic_additions : SyntheticTexts → Memory → List Addition
 synthetic_additions t m = root_addition t ∷ (first_additions t ++ (context_additions t m ++ last_additions t (place_of_set m)))
 
 -- The unit, which has no line program.
-abbrev pub synthetic_given : ℕ → SyntheticTexts → Memory → GivenUnit
-synthetic_given size t m = record { version = 4; address_size = size; lines = no_lines None; places = places_from 0 (synthetic_additions t m); additions = synthetic_additions t m }
+abbrev pub synthetic_given : Encoding → SyntheticTexts → Memory → GivenUnit
+synthetic_given encoding t m = record { version = encoding.version; address_size = encoding.address_size; lines = no_lines None; places = places_from 0 (synthetic_additions t m); additions = synthetic_additions t m }

@@ -1,6 +1,7 @@
 -- The synthetic unit, which a module has of its own, added to those of the output.
 use Rattle.std.specs.Prelude.{◌≡◌, ℕ, List, [], ◌∷◌, ◌++◌, length, slice_get, Option, Some, option_map, Result}
 use Rattle.std.specs.Option.{unwrap_or}
+use Rattle.dwc_base.specs.declared.records.Encoding.{Encoding}
 use Rattle.dwc_rules.specs.Carried.{synthetic_unit}
 use Rattle.dwc_native.specs.Compiled.{Memory, no_memory}
 use Rattle.dwc_rules.specs.SyntheticUnit as Synthetic
@@ -43,14 +44,14 @@ pub record ReferToSynthetic (number : ℕ) (m : Memory) (context address : Debug
   pub wasm_pointer : address ≡ entry_of number (place_of_wasm_pointer m)
 
 -- A module's synthetic unit is added, which says its tree, and the two types that others refer to are told; the table of texts has grown.
-pub record AddsSyntheticUnit (size : ℕ) (set_memory : List ℕ) (m : Memory) (old new : List GivenUnit) (before after : List (List ℕ)) (synthetic : ModuleSyntheticUnit) : Type 0 where
+pub record AddsSyntheticUnit (encoding : Encoding) (set_memory : List ℕ) (m : Memory) (old new : List GivenUnit) (before after : List (List ℕ)) (synthetic : ModuleSyntheticUnit) : Type 0 where
   pub made : GivenUnit
   pub added : new ≡ old ++ made ∷ []
   pub grows : Grows before after
-  pub is : (at : ℕ → ℕ → Option (ℕ × ℕ)) → LeadsTo at (length old) (made ∷ []) → IsMadeOf at size after (length old) synthetic_unit (synthetic_tree (length old) set_memory m) made
+  pub is : (at : ℕ → ℕ → Option (ℕ × ℕ)) → LeadsTo at (length old) (made ∷ []) → IsMadeOf at encoding after (length old) synthetic_unit (synthetic_tree (length old) set_memory m) made
   pub numbered : IsNumberedByPlaces made
   pub refers : ReferToSynthetic (length old) m synthetic.vmctx_ptr synthetic.wasm_ptr
 
 -- It is added, or its memory is refused.
-abbrev pub GivesSyntheticUnit : ℕ → List ℕ → Memory → List GivenUnit → List GivenUnit → List (List ℕ) → List (List ℕ) → Result ModuleSyntheticUnit DebugError → Type 0
-GivesSyntheticUnit size set_memory m old new before after result = ReadsOr (λ synthetic. AddsSyntheticUnit size set_memory m old new before after synthetic) (first_of (synthetic_refusals m)) result
+abbrev pub GivesSyntheticUnit : Encoding → List ℕ → Memory → List GivenUnit → List GivenUnit → List (List ℕ) → List (List ℕ) → Result ModuleSyntheticUnit DebugError → Type 0
+GivesSyntheticUnit encoding set_memory m old new before after result = ReadsOr (λ synthetic. AddsSyntheticUnit encoding set_memory m old new before after synthetic) (first_of (synthetic_refusals m)) result

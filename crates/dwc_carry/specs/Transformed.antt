@@ -21,7 +21,7 @@ use Rattle.dwc_unit.specs.GivenUnits.{GivenUnit, ordered}
 use Rattle.dwc_carry.specs.declared.error.DebugError.{DebugError}
 use Rattle.dwc_carry.specs.declared.error.DebugError.TheVariants.{TooLarge}
 use Rattle.dwc_carry.specs.Refusals.{GivesOr}
-use Rattle.dwc_carry.specs.Inputs.{functions_from, input_of, maps_refusal, refusal_of}
+use Rattle.dwc_carry.specs.Inputs.{encoding_of, functions_from, input_of, maps_refusal, refusal_of}
 use Rattle.dwc_carry.specs.MadeUnits.{AreMadeOf}
 
 -- the transforms of all modules, or the refusal of the first bad map
@@ -38,8 +38,8 @@ lengths_checked fss = if have_long fss then Err (TooLarge Addend) else Ok tt
 
 -- Units that are made as they are wanted for an input, whose modules are read to their ends, and that say the trees of its forest with
 -- a table of texts, which has all that they name.
-pub record IsTransformed (size : ℕ) (c : Compilation) (table : List (List ℕ)) (us : List GivenUnit) : Type 0 where
-  pub made : AreMadeOf (place_at us) size table 0 (wanted_units c) (trees_made c) us
+pub record IsTransformed (c : Compilation) (table : List (List ℕ)) (us : List GivenUnit) : Type 0 where
+  pub made : AreMadeOf (place_at us) (encoding_of c) table 0 (wanted_units c) (trees_made c) us
   pub whole : All (λ m. (units m.sections).fault ≡ None) c.modules
   pub texts : HaveTexts table (map ordered us)
   pub trees : forest c ≡ Ok (given_trees table (map ordered us))
@@ -47,4 +47,4 @@ pub record IsTransformed (size : ℕ) (c : Compilation) (table : List (List ℕ)
 
 -- The units and the texts that they name, or a refusal; frames have no part in them.
 abbrev pub GivesDwarf : Endian → ℕ → Registers → CompilationValue → Result Dwarf DebugError → Type 0
-GivesDwarf order size registers c result = GivesOr (λ (d : Dwarf). IsTransformed size (input_of order size registers None c) d.strings d.units.units.items) (refusal_of order size registers None c) result
+GivesDwarf order size registers c result = GivesOr (λ (d : Dwarf). IsTransformed (input_of order size registers None c) d.strings d.units.units.items) (refusal_of order size registers None c) result

@@ -1,5 +1,6 @@
 -- What the line program of a carried unit carries, and which files its entries name.
 use Rattle.std.specs.Prelude.{◌≡◌, ℕ, List, true, Option, Some, None, Result, Ok}
+use Rattle.dwc_base.specs.declared.records.Encoding.{Encoding}
 use Rattle.dwc_base.specs.Sections.{Sections}
 use Rattle.dwc_base.specs.Units.{UnitHeader}
 use Rattle.dwc_dwarf.specs.Indexed.{text_base}
@@ -17,23 +18,23 @@ use Rattle.dwc_carry.specs.declared.error.DebugError.{DebugError}
 use Rattle.dwc_carry.specs.Refusals.{ReadsOr}
 
 -- A line program carries the line table at an offset, read for a unit of an address size whose texts by an index begin at a base, all of
--- whose files and directories are there, and the files are its own, for an output of version 4.
-pub record CarriesTableAt (fs : List Function) (s : Sections) (address_size base size offset : ℕ) (files : UnitFiles) (lines : GivenLines) : Type 0 where
+-- whose files and directories are there, and the files are its own, for an output of an encoding.
+pub record CarriesTableAt (fs : List Function) (s : Sections) (address_size base : ℕ) (encoding : Encoding) (offset : ℕ) (files : UnitFiles) (lines : GivenLines) : Type 0 where
   pub table : LineTable
   pub is_read : line_table s address_size base offset ≡ Ok table
   pub all_there : has_all_files table ≡ true
-  pub carries : CarriesTable table fs size lines
-  pub files_are : AreFiles files 4 table.header.version (Some table)
+  pub carries : CarriesTable table fs encoding.address_size lines
+  pub files_are : AreFiles files encoding.version table.header.version (Some table)
 
 -- A line program carries the line table that the root of a unit names; there is none where it names none.
-abbrev pub CarriesNamed : List Function → Sections → UnitHeader → ℕ → Option ℕ → UnitFiles → GivenLines → Type 0
-CarriesNamed fs s h size None files lines = AreFiles files 4 h.version None × (lines ≡ no_lines None)
-CarriesNamed fs s h size (Some offset) files lines = CarriesTableAt fs s h.address_size (text_base s h) size offset files lines
+abbrev pub CarriesNamed : List Function → Sections → UnitHeader → Encoding → Option ℕ → UnitFiles → GivenLines → Type 0
+CarriesNamed fs s h encoding None files lines = AreFiles files encoding.version h.version None × (lines ≡ no_lines None)
+CarriesNamed fs s h encoding (Some offset) files lines = CarriesTableAt fs s h.address_size (text_base s h) encoding offset files lines
 
 -- A new unit, with the line program that carries what a root names, and the files of that.
-abbrev pub IsBegun : List Function → Sections → UnitHeader → ℕ → Option ℕ → BegunUnit → Type 0
-IsBegun fs s h size offset b = CarriesNamed fs s h size offset b.files b.unit.lines × (b.unit ≡ new_unit 4 size b.unit.lines)
+abbrev pub IsBegun : List Function → Sections → UnitHeader → Encoding → Option ℕ → BegunUnit → Type 0
+IsBegun fs s h encoding offset b = CarriesNamed fs s h encoding offset b.files b.unit.lines × (b.unit ≡ new_unit encoding.version encoding.address_size b.unit.lines)
 
 -- That unit, or the refusal of the line table.
-abbrev pub GivesBegun : List Function → Sections → UnitHeader → ℕ → Option ℕ → Result BegunUnit DebugError → Type 0
-GivesBegun fs s h size offset result = ReadsOr (IsBegun fs s h size offset) (lines_refusal s h offset) result
+abbrev pub GivesBegun : List Function → Sections → UnitHeader → Encoding → Option ℕ → Result BegunUnit DebugError → Type 0
+GivesBegun fs s h encoding offset result = ReadsOr (IsBegun fs s h encoding offset) (lines_refusal s h offset) result

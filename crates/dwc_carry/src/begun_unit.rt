@@ -32,11 +32,11 @@ pub(crate) fn begun_unit(
     transform: &AddressTransform<'_>,
     encoding: Encoding,
 ) -> Result<BegunUnit, DebugError>
-    requires version { encoding.version ≡ 4 }
+    requires version { (encoding.version ≡ 4) ⊎ (encoding.version ≡ 5) }
     requires size { (encoding.address_size ≡ 4) ⊎ (encoding.address_size ≡ 8) }
     requires functions { AreKept transform.now }
-    requires known { IsLast transform.now encoding.address_size read.now.unit.sections units.now.units.items last }
-    ensures { GivesBegun transform.now read.now.unit.sections read.now.unit.header encoding.address_size read.now.line_table result }
+    requires known { IsLast transform.now encoding read.now.unit.sections units.now.units.items last }
+    ensures { GivesBegun transform.now read.now.unit.sections read.now.unit.header encoding read.now.line_table result }
 {
     let Some(offset) = read.line_table else {
         let none = LineProgram::none(alloc);
@@ -71,10 +71,10 @@ fn begun_at_once(
     transform: &AddressTransform<'_>,
     encoding: Encoding,
 ) -> Option<BegunUnit>
-    requires version { encoding.version ≡ 4 }
+    requires version { (encoding.version ≡ 4) ⊎ (encoding.version ≡ 5) }
     requires size { (encoding.address_size ≡ 4) ⊎ (encoding.address_size ≡ 8) }
     requires functions { AreKept transform.now }
-    ensures { IfSome result (IsBegun transform.now read.now.unit.sections read.now.unit.header encoding.address_size (Some offset)) }
+    ensures { IfSome result (IsBegun transform.now read.now.unit.sections read.now.unit.header encoding (Some offset)) }
 {
     let Ok(mut table) = OpenTable::begin(alloc, &read.unit, offset) else {
         return None;
@@ -99,10 +99,10 @@ fn begun_behind(
     transform: &AddressTransform<'_>,
     encoding: Encoding,
 ) -> Result<BegunUnit, DebugError>
-    requires version { encoding.version ≡ 4 }
+    requires version { (encoding.version ≡ 4) ⊎ (encoding.version ≡ 5) }
     requires size { (encoding.address_size ≡ 4) ⊎ (encoding.address_size ≡ 8) }
     requires functions { AreKept transform.now }
-    ensures { GivesBegun transform.now read.now.unit.sections read.now.unit.header encoding.address_size (Some offset) result }
+    ensures { GivesBegun transform.now read.now.unit.sections read.now.unit.header encoding (Some offset) result }
 {
     let table = LineTable::read(alloc, &read.unit, offset)?;
     let files = UnitFiles {

@@ -51,7 +51,7 @@ fn carry_module(
     dwarf: &mut Dwarf,
     translated: &mut BTreeSet<usize>,
 ) -> Result<(), DebugError>
-    requires version { form.encoding.version ≡ 4 }
+    requires version { (form.encoding.version ≡ 4) ⊎ (form.encoding.version ≡ 5) }
     requires size { (form.encoding.address_size ≡ 4) ⊎ (form.encoding.address_size ≡ 8) }
     requires functions { AreKept transform.now }
     requires addends { HaveAddends transform.now }
@@ -59,8 +59,8 @@ fn carry_module(
     requires names { IsText compiled.now.names.resolve_memory.now }
     requires behind { 0 < length dwarf.old.units.units.items }
     requires synthetic { (number : ℕ) → length dwarf.old.units.units.items ≡ suc number → ReferToSynthetic number (told_by (dwarf_registers isa.now) compiled.now).memory synthetic.now.vmctx_ptr synthetic.now.wasm_ptr }
-    ensures noted { OnOk result (NotesFunctions (begun_in_module (transformed_module translation.now transform.now (told_by (dwarf_registers isa.now) compiled.now))) translated.old translated.new) }
-    ensures added { (synthetic : ℕ) → length dwarf.old.units.units.items ≡ suc synthetic → GivesCarried form.encoding.address_size form.big_endian (transformed_module translation.now transform.now (told_by (dwarf_registers isa.now) compiled.now)) synthetic dwarf.old dwarf.new result }
+    ensures noted { OnOk result (NotesFunctions (begun_in_module (transformed_module form.encoding.version translation.now transform.now (told_by (dwarf_registers isa.now) compiled.now))) translated.old translated.new) }
+    ensures added { (synthetic : ℕ) → length dwarf.old.units.units.items ≡ suc synthetic → GivesCarried form.encoding form.big_endian (transformed_module form.encoding.version translation.now transform.now (told_by (dwarf_registers isa.now) compiled.now)) synthetic dwarf.old dwarf.new result }
 {
     if let Some(offset) = translation.compressed {
         return Err(DebugError::Unsupported {
@@ -97,12 +97,13 @@ pub(crate) fn carry_modules(
     form: OutputForm,
     dwarf: &mut Dwarf,
 ) -> Result<CarriedModules, DebugError>
-    requires version { form.encoding.version ≡ 4 }
+    requires version { (form.encoding.version ≡ 4) ⊎ (form.encoding.version ≡ 5) }
     requires size { (form.encoding.address_size ≡ 4) ⊎ (form.encoding.address_size ≡ 8) }
+    requires asked { form.encoding.version ≡ compilation.now.tunables.dwarf_version }
     requires transforms { transforms.now ≡ functions_from 0 compilation.now.translations compilation.now.functions }
     requires functions { All AreKept transforms.now }
     requires addends { All HaveAddends transforms.now }
-    ensures { GivesModules form.encoding.address_size form.big_endian (modules_of (dwarf_registers isa.now) compilation.now) dwarf.old dwarf.new result }
+    ensures { GivesModules form.encoding form.big_endian (modules_of (dwarf_registers isa.now) compilation.now) dwarf.old dwarf.new result }
 {
     let translations = compilation.translations();
     let mut translated = BTreeSet::new(alloc);

@@ -49,18 +49,18 @@ fn carry_unit(
     known: &mut KnownTexts,
     translated: &mut BTreeSet<usize>,
 ) -> Result<Option<LastLines>, DebugError>
-    requires version { form.encoding.version ≡ 4 }
+    requires version { (form.encoding.version ≡ 4) ⊎ (form.encoding.version ≡ 5) }
     requires size { (form.encoding.address_size ≡ 4) ⊎ (form.encoding.address_size ≡ 8) }
     requires functions { AreKept transform.now }
     requires addends { HaveAddends transform.now }
     requires frames { HasFrames compiled.now transform.now }
     requires names { IsText compiled.now.names.resolve_memory.now }
-    requires known { IsLast transform.now form.encoding.address_size read.now.unit.sections dwarf.old.units.units.items last }
+    requires known { IsLast transform.now form.encoding read.now.unit.sections dwarf.old.units.units.items last }
     requires read { All IsReadEntry (entries_of read.now.unit.sections read.now.unit.header).items }
     requires texts { KnowsTexts read.now.unit.sections dwarf.old.strings known.old }
     ensures texts { KnowsTexts read.now.unit.sections dwarf.new.strings known.new }
-    ensures noted { (c : Module) (m : KeptModuleValue) (first : ℕ) → IsUnitOf c transform.now (told_by (dwarf_registers isa.now) compiled.now) m first (length dwarf.old.units.units.items) places.now kept.now read.now → OnOk result (NotesFunctions (begun_functions (record { module_of = c; unit = unit_read c.sections read.now.unit.header })) translated.old translated.new) }
-    ensures added { (c : Module) (m : KeptModuleValue) (first : ℕ) → IsUnitOf c transform.now (told_by (dwarf_registers isa.now) compiled.now) m first (length dwarf.old.units.units.items) places.now kept.now read.now → ReferToSynthetic first c.told.memory synthetic.now.vmctx_ptr synthetic.now.wasm_ptr → GivesUnit form.encoding.address_size form.big_endian c first places.now (unit_read c.sections read.now.unit.header) dwarf.old dwarf.new result }
+    ensures noted { (c : Module) (m : KeptModuleValue) (first : ℕ) → IsUnitOf form.encoding.version c transform.now (told_by (dwarf_registers isa.now) compiled.now) m first (length dwarf.old.units.units.items) places.now kept.now read.now → OnOk result (NotesFunctions (begun_functions (record { module_of = c; unit = unit_read c.sections read.now.unit.header })) translated.old translated.new) }
+    ensures added { (c : Module) (m : KeptModuleValue) (first : ℕ) → IsUnitOf form.encoding.version c transform.now (told_by (dwarf_registers isa.now) compiled.now) m first (length dwarf.old.units.units.items) places.now kept.now read.now → ReferToSynthetic first c.told.memory synthetic.now.vmctx_ptr synthetic.now.wasm_ptr → GivesUnit form.encoding form.big_endian c first places.now (unit_read c.sections read.now.unit.header) dwarf.old dwarf.new result }
 {
     let BegunUnit { unit, files } = begun_unit(
         alloc,
@@ -113,18 +113,18 @@ pub(crate) fn carry_units(
     dwarf: &mut Dwarf,
     translated: &mut BTreeSet<usize>,
 ) -> Result<(), DebugError>
-    requires version { form.encoding.version ≡ 4 }
+    requires version { (form.encoding.version ≡ 4) ⊎ (form.encoding.version ≡ 5) }
     requires size { (form.encoding.address_size ≡ 4) ⊎ (form.encoding.address_size ≡ 8) }
     requires functions { AreKept transform.now }
     requires addends { HaveAddends transform.now }
     requires frames { HasFrames compiled.now transform.now }
     requires names { IsText compiled.now.names.resolve_memory.now }
-    requires read { HasModule transform.now (told_by (dwarf_registers isa.now) compiled.now) read_module.now }
+    requires read { HasModule form.encoding.version transform.now (told_by (dwarf_registers isa.now) compiled.now) read_module.now }
     requires behind { 0 < length dwarf.old.units.units.items }
     requires synthetic { (number : ℕ) → length dwarf.old.units.units.items ≡ suc number → ReferToSynthetic number (told_by (dwarf_registers isa.now) compiled.now).memory synthetic.now.vmctx_ptr synthetic.now.wasm_ptr }
     requires places { places.now ≡ numbered_lists (length dwarf.old.units.units.items) (emitted read_module.now.kept read_module.now.units.items) }
-    ensures noted { (c : Module) → IsOfModule c transform.now (told_by (dwarf_registers isa.now) compiled.now) read_module.now → OnOk result (NotesFunctions (begun_in_module c) translated.old translated.new) }
-    ensures added { (c : Module) (synthetic : ℕ) → length dwarf.old.units.units.items ≡ suc synthetic → IsOfModule c transform.now (told_by (dwarf_registers isa.now) compiled.now) read_module.now → GivesUnits form.encoding.address_size form.big_endian c synthetic dwarf.old dwarf.new result }
+    ensures noted { (c : Module) → IsOfModule form.encoding.version c transform.now (told_by (dwarf_registers isa.now) compiled.now) read_module.now → OnOk result (NotesFunctions (begun_in_module c) translated.old translated.new) }
+    ensures added { (c : Module) (synthetic : ℕ) → length dwarf.old.units.units.items ≡ suc synthetic → IsOfModule form.encoding.version c transform.now (told_by (dwarf_registers isa.now) compiled.now) read_module.now → GivesUnits form.encoding form.big_endian c synthetic dwarf.old dwarf.new result }
 {
     let mut last = None;
     let mut known = KnownTexts::new(alloc);

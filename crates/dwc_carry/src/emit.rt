@@ -33,8 +33,8 @@ impl CarriedDwarf {
     ///
     /// # Errors
     /// `InvalidFrameCodeOffset` or `InvalidFrameDataOffset` exactly where a function's frame description cannot be written, for the first.
-    /// Where none is refused: `TooLarge` `Expression` exactly where an expression of a location list has more than 65,535 bytes; else
-    /// `TooLarge` `Section` only for a section that could be longer than 2^31 - 1 bytes, each of its numbers at its widest. `OutOfMemory`
+    /// Where none is refused: `TooLarge` `Expression` exactly where units have version 4 and an expression of a location list has more than
+    /// 65,535 bytes; else `TooLarge` `Section` only for a section that could be longer than 2^31 - 1 bytes, each of its numbers at its widest. `OutOfMemory`
     /// for want of memory.
     pub fn write(self, alloc: Global) -> Result<Vec<DwarfSection>, DebugError>
         requires { IsReady self }
@@ -50,8 +50,8 @@ impl CarriedDwarf {
     }
 }
 
-/// What the DWARF of a compilation carries over to, for a target, with the call frames of its functions where the target has a common
-/// information entry. The compilation is left as it is but for its counter of names, which rises where the path of the unit for functions
+/// What the DWARF of a compilation carries over to, for a target, in the version of DWARF that its tunables ask for, 4 or 5, with the call
+/// frames of its functions where the target has a common information entry. The compilation is left as it is but for its counter of names, which rises where the path of the unit for functions
 /// without debugging information is made of it: not where an address map, a length or a module is refused. The work is linear in what is
 /// read and made.
 ///
@@ -63,6 +63,7 @@ pub fn carry_dwarf(
     isa: &dyn TargetIsa,
     compilation: &mut Compilation<'_>,
 ) -> Result<CarriedDwarf, DebugError>
+    requires version { (compilation.old.tunables.dwarf_version ≡ 4) ⊎ (compilation.old.tunables.dwarf_version ≡ 5) }
     ensures carried { Carries (byte_order isa.now) (pointer_size isa.now) (dwarf_registers isa.now) (common_entry isa.now) compilation.old result }
     ensures ready { IfOk result IsReady }
     ensures counter { OnOk result (compilation.new ≡ counted_behind (dwarf_registers isa.now) compilation.old) }
@@ -80,8 +81,8 @@ pub fn carry_dwarf(
     })
 }
 
-/// The sections of DWARF that those of a compilation carry over to, for a target, with the call frames of its functions behind them where
-/// the target has a common information entry: [`carry_dwarf`], and what it carries written. The compilation is left as it is but for its
+/// The sections of DWARF that those of a compilation carry over to, for a target, in the version of DWARF that its tunables ask for, 4 or 5,
+/// with the call frames of its functions behind them where the target has a common information entry: [`carry_dwarf`], and what it carries written. The compilation is left as it is but for its
 /// counter of names, which rises where the path of the unit for functions without debugging information is made of it: not where an address
 /// map, a length or a module is refused. The work is linear in what is read and written.
 ///
@@ -97,13 +98,14 @@ pub fn carry_dwarf(
 /// `TooLarge` `Vmctx` for a module whose memory is too far behind in its context,
 /// exactly where something is refused, for the first in the order of the work, module by module; then `Path` exactly where the path of the
 /// simulated unit names no file, and what is refused of the variables of its functions. Where nothing is: `InvalidFrameCodeOffset` or `InvalidFrameDataOffset` exactly where a function's frame description cannot be written, for the first. Where nothing is refused: `TooLarge` `Expression`
-/// exactly where an expression of a location list has more than 65,535 bytes; else `TooLarge` `Section` only for a section that could be
+/// exactly where the version is 4 and an expression of a location list has more than 65,535 bytes; else `TooLarge` `Section` only for a section that could be
 /// longer than 2^31 - 1 bytes, each of its numbers at its widest. `OutOfMemory` for want of memory.
 pub fn emit_dwarf(
     alloc: Global,
     isa: &dyn TargetIsa,
     compilation: &mut Compilation<'_>,
 ) -> Result<Vec<DwarfSection>, DebugError>
+    requires version { (compilation.old.tunables.dwarf_version ≡ 4) ⊎ (compilation.old.tunables.dwarf_version ≡ 5) }
     ensures sections { Emits (byte_order isa.now) (pointer_size isa.now) (dwarf_registers isa.now) (common_entry isa.now) compilation.old result }
     ensures means { IfOk result (λ s. OutputMeans (input_of (byte_order isa.now) (pointer_size isa.now) (dwarf_registers isa.now) (common_entry isa.now) compilation.old) (map section_view s.items)) }
     ensures counter { OnOk result (compilation.new ≡ counted_behind (dwarf_registers isa.now) compilation.old) }

@@ -1,5 +1,6 @@
 //! The simulated functions of a module, with their parameters and variables, in the unit for functions without debugging information.
 ghost use Rattle.std.specs.Prelude.{◌≡◌, ◌<◌, ◌+◌, ◌++◌, ◌^◌, ℕ, List, Option, Some, length, slice_get, All, IfOk, IsOkUnless, OnOk};
+ghost use Rattle.dwc_base.specs.declared.records.Encoding.{Encoding};
 ghost use Rattle.dwc_native.specs.Addends.{HaveAddends};
 ghost use Rattle.dwc_rules.specs.Carried.{Module};
 ghost use Rattle.dwc_carried.specs.DefinedFunctions.{DefinedFunction};
@@ -193,7 +194,7 @@ pub(crate) fn add_functions(
     ensures grows { Grows strings.old strings.new }
     ensures dense { OnOk result (IsDense unit.new) }
     ensures some { OnOk result (0 < length unit.new.additions) }
-    ensures begins { (size : ℕ) (lines : GivenLines) (root : Addition) → BeginsWith size lines root unit.old → OnOk result (BeginsWith size lines root unit.new) }
+    ensures begins { (encoding : Encoding) (lines : GivenLines) (root : Addition) → BeginsWith encoding lines root unit.old → OnOk result (BeginsWith encoding lines root unit.new) }
     ensures functions { (m : Module) (number : ℕ) (behind whole : List Draft) → IsSimulatedModule (dwarf_registers isa.now) m «module».now → HasFunctions number (reference_meant «module».now.vmctx_ptr) m strings.old behind whole (simulated_functions (is_noted translated.now) m) unit.old → GivesFunctions (is_noted translated.now) number (reference_meant «module».now.vmctx_ptr) m behind whole strings.new unit.new result }
 {
     for place in 0..module.transform.map().len() {

@@ -1,5 +1,6 @@
 //! The entries of the simulated functions of all modules, in the unit for functions without debugging information.
 ghost use Rattle.std.specs.Prelude.{◌≡◌, ◌<◌, ◌^◌, ℕ, List, None, length, map, All, OnOk};
+ghost use Rattle.dwc_base.specs.declared.records.Encoding.{Encoding};
 ghost use Rattle.dwc_native.specs.Addends.{HaveAddends};
 ghost use Rattle.dwc_rules.specs.Drafts.{Draft};
 ghost use Rattle.dwc_base.specs.TranslationNames.{HasSortedNames};
@@ -49,7 +50,7 @@ fn add_module(
     ensures grows { Grows strings.old strings.new }
     ensures dense { OnOk result (IsDense unit.new) }
     ensures some { OnOk result (0 < length unit.new.additions) }
-    ensures begins { (size : ℕ) (lines : GivenLines) (root : Addition) → BeginsWith size lines root unit.old → OnOk result (BeginsWith size lines root unit.new) }
+    ensures begins { (encoding : Encoding) (lines : GivenLines) (root : Addition) → BeginsWith encoding lines root unit.old → OnOk result (BeginsWith encoding lines root unit.new) }
     ensures functions { AddsModule (dwarf_registers isa.now) (is_noted translated.now) translation.now transform.now compiled.now vmctx_ptr.now strings.old strings.new unit.old unit.new result }
 {
     let module = SimulatedModule {
@@ -85,7 +86,7 @@ pub(crate) fn add_modules(
     requires dense { IsDense unit.old }
     requires some { 0 < length unit.old.additions }
     ensures grows { Grows strings.old strings.new }
-    ensures begins { (size : ℕ) (lines : GivenLines) (root : Addition) → BeginsWith size lines root unit.old → OnOk result (BeginsWith size lines root unit.new) }
+    ensures begins { (encoding : Encoding) (lines : GivenLines) (root : Addition) → BeginsWith encoding lines root unit.old → OnOk result (BeginsWith encoding lines root unit.new) }
     ensures entries { (number : ℕ) (whole : List Draft) → HasModules (is_noted translated.now) number (map reference_meant vmctx_ptrs.now) strings.old whole (modules_of (dwarf_registers isa.now) compilation.now) unit.old → GivesEntries (is_noted translated.now) number whole (modules_of (dwarf_registers isa.now) compilation.now) strings.new unit.new result }
 {
     let translations = compilation.translations();

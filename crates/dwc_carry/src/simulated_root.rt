@@ -61,11 +61,11 @@ pub(crate) fn root_unit(
     texts: &RootTexts,
     ranges: RangeList,
 ) -> Result<Unit, WriteError>
-    requires version { encoding.version ≡ 4 }
+    requires version { (encoding.version ≡ 4) ⊎ (encoding.version ≡ 5) }
     requires size { (encoding.address_size ≡ 4) ⊎ (encoding.address_size ≡ 8) }
     requires lines { lines.address_size ≡ Some encoding.address_size }
     requires fits { (size : ℕ) → FitsValue size DW_AT_ranges (RangeListRef ranges) }
-    ensures { OkUnlessMemory result (λ u. u ≡ root_given 4 encoding.address_size lines texts.now ranges) }
+    ensures { OkUnlessMemory result (λ u. u ≡ root_given encoding.version encoding.address_size lines texts.now ranges) }
 {
     let mut unit = Unit::new(alloc, encoding, lines)?;
     set_root(&mut unit, texts, ranges)?;

@@ -41,13 +41,13 @@ fn typed_unit(
     functions: &[(u64, &FunctionMap<'_>)],
     strings: &mut StringTable,
 ) -> Result<Unit, WriteError>
-    requires version { encoding.version ≡ 4 }
+    requires version { (encoding.version ≡ 4) ⊎ (encoding.version ≡ 5) }
     requires size { (encoding.address_size ≡ 4) ⊎ (encoding.address_size ≡ 8) }
     requires path { IsText path.now }
     requires name { is_file_name (path_name path.now) ≡ true }
     requires functions { All CanWrite (map simulated_view functions.now) }
     ensures grows { Grows strings.old strings.new }
-    ensures typed { IfOk result (IsTyped encoding.address_size path.now (map simulated_view functions.now) strings.new) }
+    ensures typed { IfOk result (IsTyped encoding path.now (map simulated_view functions.now) strings.new) }
     ensures memory { IsOkUnless result OutOfMemory }
 {
     let ranges = whole_ranges(alloc, functions)?;
@@ -71,7 +71,7 @@ fn simulated_unit(
     path: &[u8],
     strings: &mut StringTable,
 ) -> Result<Unit, DebugError>
-    requires version { encoding.version ≡ 4 }
+    requires version { (encoding.version ≡ 4) ⊎ (encoding.version ≡ 5) }
     requires size { (encoding.address_size ≡ 4) ⊎ (encoding.address_size ≡ 8) }
     requires transforms { transforms.now ≡ functions_from 0 compilation.now.translations compilation.now.functions }
     requires maps { bad_map compilation.now ≡ None }
@@ -81,7 +81,7 @@ fn simulated_unit(
     requires path { IsText path.now }
     requires name { is_file_name (path_name path.now) ≡ true }
     ensures grows { Grows strings.old strings.new }
-    ensures unit { GivesUnit (is_noted translated.now) encoding.address_size path.now (modules_of (dwarf_registers isa.now) compilation.now) vmctx_ptrs.now strings.old strings.new result }
+    ensures unit { GivesUnit (is_noted translated.now) encoding path.now (modules_of (dwarf_registers isa.now) compilation.now) vmctx_ptrs.now strings.old strings.new result }
 {
     let functions = simulated_functions(alloc, compilation, transforms, translated)?;
     let mut unit = typed_unit(alloc, encoding, path, &functions, strings)?;
@@ -154,14 +154,14 @@ pub fn generate_simulated_dwarf(
     out_strings: &mut StringTable,
     isa: &dyn TargetIsa,
 ) -> Result<(), DebugError>
-    requires version { out_encoding.version ≡ 4 }
+    requires version { (out_encoding.version ≡ 4) ⊎ (out_encoding.version ≡ 5) }
     requires size { (out_encoding.address_size ≡ 4) ⊎ (out_encoding.address_size ≡ 8) }
     requires transforms { addr_tr.now ≡ functions_from 0 compilation.old.translations compilation.old.functions }
     requires maps { bad_map compilation.old ≡ None }
     requires functions { All AreKept addr_tr.now }
     requires addends { All HaveAddends addr_tr.now }
     requires contexts { length vmctx_ptr_die_refs.now ≡ length compilation.old.translations }
-    ensures added { GivesSimulatedUnit (is_noted translated.now) out_encoding.address_size compilation.old.next_id (modules_of (dwarf_registers isa.now) compilation.old) vmctx_ptr_die_refs.now out_units.old.units.items out_units.new.units.items out_strings.old out_strings.new result }
+    ensures added { GivesSimulatedUnit (is_noted translated.now) out_encoding compilation.old.next_id (modules_of (dwarf_registers isa.now) compilation.old) vmctx_ptr_die_refs.now out_units.old.units.items out_units.new.units.items out_strings.old out_strings.new result }
     ensures units { OnErr result (out_units.new.units.items ≡ out_units.old.units.items) }
     ensures texts { Grows out_strings.old out_strings.new }
     ensures counter { OnOk result (compilation.new ≡ counted_behind (dwarf_registers isa.now) compilation.old) }

@@ -262,10 +262,10 @@ pub(crate) fn synthetic_unit(
     texts: &SyntheticTexts,
     memory: ModuleMemoryOffset,
 ) -> Result<Unit, WriteError>
-    requires version { encoding.version ≡ 4 }
+    requires version { (encoding.version ≡ 4) ⊎ (encoding.version ≡ 5) }
     requires size { (encoding.address_size ≡ 4) ⊎ (encoding.address_size ≡ 8) }
     requires near { Synthetic.is_too_far (memory_view memory) ≡ false }
-    ensures { OkUnlessMemory result (λ u. u ≡ synthetic_given encoding.address_size texts.now (memory_view memory)) }
+    ensures { OkUnlessMemory result (λ u. u ≡ synthetic_given encoding texts.now (memory_view memory)) }
 {
     let mut unit = Unit::new(alloc, encoding, LineProgram::none(alloc))?;
     set_root(&mut unit, texts)?;

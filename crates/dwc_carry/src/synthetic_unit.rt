@@ -48,9 +48,9 @@ impl ModuleSyntheticUnit {
         out_strings: &mut StringTable,
     ) -> Result<ModuleSyntheticUnit, DebugError>
         requires inside { «module».0 < length compilation.now.translations }
-        requires version { encoding.version ≡ 4 }
+        requires version { (encoding.version ≡ 4) ⊎ (encoding.version ≡ 5) }
         requires size { (encoding.address_size ≡ 4) ⊎ (encoding.address_size ≡ 8) }
-        ensures added { GivesSyntheticUnit encoding.address_size compilation.now.set_memory (memory_at compilation.now «module».0) out_units.old.units.items out_units.new.units.items out_strings.old out_strings.new result }
+        ensures added { GivesSyntheticUnit encoding compilation.now.set_memory (memory_at compilation.now «module».0) out_units.old.units.items out_units.new.units.items out_strings.old out_strings.new result }
         ensures units { OnErr result (out_units.new.units.items ≡ out_units.old.units.items) }
         ensures texts { Grows out_strings.old out_strings.new }
     {

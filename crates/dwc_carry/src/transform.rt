@@ -35,6 +35,7 @@ pub fn transform_dwarf(
     isa: &dyn TargetIsa,
     compilation: &mut Compilation<'_>,
 ) -> Result<Dwarf, DebugError>
+    requires version { (compilation.old.tunables.dwarf_version ≡ 4) ⊎ (compilation.old.tunables.dwarf_version ≡ 5) }
     ensures units { GivesDwarf (byte_order isa.now) (pointer_size isa.now) (dwarf_registers isa.now) compilation.old result }
     ensures counter { OnOk result (compilation.new ≡ counted_behind (dwarf_registers isa.now) compilation.old) }
     ensures refused { IfErr result (λ e. (compilation.new ≡ compilation.old) ⊎ (compilation.new ≡ counted_behind (dwarf_registers isa.now) compilation.old)) }
@@ -43,7 +44,7 @@ pub fn transform_dwarf(
 {
     let transforms = transforms(alloc, compilation)?;
     check_lengths(&transforms)?;
-    let form = output_form(isa);
+    let form = output_form(isa, compilation.tunables().dwarf_version);
     let mut dwarf = Dwarf {
         units: UnitTable::new(alloc),
         strings: StringTable::new(alloc),
@@ -63,16 +64,15 @@ pub fn transform_dwarf(
     Ok(dwarf)
 }
 
-// The form of the output for a target: units of version 4 with addresses of the target's size.
-fn output_form(isa: &dyn TargetIsa) -> OutputForm
-    ensures version { result.encoding.version ≡ 4 }
-    ensures address_size { result.encoding.address_size ≡ pointer_size isa.now }
+// The form of the output for a target: units of a version with addresses of the target's size.
+fn output_form(isa: &dyn TargetIsa, version: u16) -> OutputForm
+    ensures encoding { result.encoding ≡ record { version = version; address_size = pointer_size isa.now } }
     ensures size { (result.encoding.address_size ≡ 4) ⊎ (result.encoding.address_size ≡ 8) }
     ensures order { result.big_endian ≡ is_big (byte_order isa.now) }
 {
     OutputForm {
         encoding: Encoding {
-            version: 4,
+            version,
             address_size: isa.pointer_bytes(),
         },
         big_endian: match isa.endianness() {

@@ -8,6 +8,7 @@ use Rattle.dwc_carry.proofs.emit.carry_dwarf.Goals as goal
 pub returns-clause-carried : goal.returns-clause-carried
 returns-clause-carried g c = record {
   order_is = c.endianness-order.ensures;
+  asked = c.requires.version;
   accepted = c.in_ok-dwarf.ensures.units.0;
   units = c.in_ok-dwarf.ensures.units.1;
   common = c.in_ok-frames.ensures.common;

@@ -79,9 +79,9 @@ loop-i-preserved g c =
     (c.index-translations-i.is ∙ ap (λ ts. get_or ts c.loop-i.i t) c.translations-translations.ensures.translations) c.index-transforms-i.is (c.compiled_module-compiled.ensures.told registers) c.compiled_module-compiled.ensures.frames in
     let ms = modules_of registers compilation in
     let refs = c.args.vmctx_ptrs.now in
-    let m = transformed_module t fs (told_by registers compiled) in
+    let m = transformed_module compilation.tunables.dwarf_version t fs (told_by registers compiled) in
     let inside : c.loop-i.i < length refs = omega (arith, less, c.requires.contexts) in
-    added-more (is_noted c.args.translated.now) ms refs c.args.strings.now c.args.unit.now registers c.loop-i.strings c.loop-i.unit c.loop-i.i c.loop-i.invariant t fs compiled _ m refl next.frames next.left inside (get_or_default refs c.loop-i.i _ _ inside)
+    added-more (is_noted c.args.translated.now) ms refs c.args.strings.now c.args.unit.now registers compilation.tunables.dwarf_version c.loop-i.strings c.loop-i.unit c.loop-i.i c.loop-i.invariant t fs compiled _ m refl next.frames next.left inside (get_or_default refs c.loop-i.i _ _ inside)
     c.add_module.new.strings c.add_module.new.unit c.in_ok-add_module.ensures.grows c.in_ok-add_module.ensures.dense c.in_ok-add_module.ensures.some c.in_ok-add_module.ensures.begins c.in_ok-add_module.ensures.functions
 
 pub returns-in_err-add_module-clause-grows : goal.returns-in_err-add_module-clause-grows
@@ -99,11 +99,11 @@ returns-in_err-add_module-clause-entries g c = λ number whole has.
     (c.index-translations-i.is ∙ ap (λ ts. get_or ts c.loop-i.i t) c.translations-translations.ensures.translations) c.index-transforms-i.is (c.compiled_module-compiled.ensures.told registers) c.compiled_module-compiled.ensures.frames in
     let ms = modules_of registers compilation in
     let refs = c.args.vmctx_ptrs.now in
-    let m = transformed_module t fs (told_by registers compiled) in
+    let m = transformed_module compilation.tunables.dwarf_version t fs (told_by registers compiled) in
     let inside : c.loop-i.i < length refs = omega (arith, less, c.requires.contexts) in
     let p = err_from_is_err_and c.from_residual.result c.from_residual.ensures.1 in
     rw (p.1, p.2)
-    (added-refused (is_noted c.args.translated.now) ms refs c.args.strings.now c.args.unit.now registers c.loop-i.strings c.loop-i.unit c.loop-i.i c.loop-i.invariant t fs compiled _ m refl next.frames next.left inside (get_or_default refs c.loop-i.i _ _ inside)
+    (added-refused (is_noted c.args.translated.now) ms refs c.args.strings.now c.args.unit.now registers compilation.tunables.dwarf_version c.loop-i.strings c.loop-i.unit c.loop-i.i c.loop-i.invariant t fs compiled _ m refl next.frames next.left inside (get_or_default refs c.loop-i.i _ _ inside)
     number whole c.add_module.new.strings c.add_module.new.unit c.in_err-add_module.field-0.0 c.in_err-add_module.ensures.functions has)
 
 pub returns-clause-entries : goal.returns-clause-entries
@@ -112,5 +112,5 @@ returns-clause-entries g c = λ number whole has.
     let registers = (goal.TargetIsa-dyn g c.args.isa.now).dwarf_registers c.args.isa.now.1 in
     let ms = modules_of registers compilation in
     let behind = rw c.translations-translations.ensures.translations at c.loop-i-test.false in
-    let past : length ms ≤ c.loop-i.i = omega (arith, modules-length compilation.translations compilation.functions (told_from registers (names_of compilation) 0 0 compilation.functions compilation.memory_offsets), behind) in
+    let past : length ms ≤ c.loop-i.i = omega (arith, modules-length compilation.tunables.dwarf_version compilation.translations compilation.functions (told_from registers (names_of compilation) 0 0 compilation.functions compilation.memory_offsets), behind) in
     added-done (is_noted c.args.translated.now) ms c.args.vmctx_ptrs.now c.args.strings.now c.args.unit.now c.loop-i.strings c.loop-i.unit c.loop-i.i past c.loop-i.invariant number whole has

@@ -19,7 +19,7 @@ pub returns-then-is_empty-clause-added : goal.returns-then-is_empty-clause-added
 returns-then-is_empty-clause-added g c =
     let registers = (goal.TargetIsa-dyn g c.args.isa.now).dwarf_registers c.args.isa.now.1 in
     let none = sym (ap length c.translations.ensures.translations) ∙ eqb-true (length c.translations.result.now) 0 (sym c.is_empty.ensures ∙ c.if-is_empty.true) in
-    none-added (is_noted c.args.translated.now) registers c.args.compilation.now c.args.out_encoding.address_size c.args.vmctx_ptr_die_refs.now c.args.out_units.now.units.items c.args.out_strings.now none
+    none-added (is_noted c.args.translated.now) registers c.args.compilation.now c.args.out_encoding c.args.vmctx_ptr_die_refs.now c.args.out_units.now.units.items c.args.out_strings.now none
 
 pub returns-then-not-is_file_name-clause-added : goal.returns-then-not-is_file_name-clause-added
 returns-then-not-is_file_name-clause-added g c =
@@ -74,11 +74,11 @@ returns-clause-added g c =
     let path : List ℕ = c.in_ok-path.path.items in
     let tested = c.is_file_name.ensures ∙ ap is_file_name (c.path_name.ensures ∙ ap path_name c.deref.ensures.value) in
     let same = same-modules registers compilation c.taken_path.new.compilation (c.in_ok-path.ensures.counter registers) in
-    let size = c.args.out_encoding.address_size in
+    let encoding = c.args.out_encoding in
     let before = c.args.out_strings.now in
     let after = c.simulated_unit.new.strings in
     let u = c.in_ok-unit.unit in
     let refs = c.args.vmctx_ptr_die_refs.now in
-    let given : GivesUnit (is_noted c.args.translated.now) size c.deref-2.result.now (modules_of registers compilation) refs before after (Ok u) = subst (λ (ms : List Module). GivesUnit (is_noted c.args.translated.now) size c.deref-2.result.now ms refs before after (Ok u)) same c.in_ok-unit.ensures.unit in
-    let last : GivesUnit (is_noted c.args.translated.now) size path (modules_of registers compilation) refs before after (Ok u) = subst (λ (p : List ℕ). GivesUnit (is_noted c.args.translated.now) size p (modules_of registers compilation) refs before after (Ok u)) c.deref-2.ensures.value given in
-    last-added (is_noted c.args.translated.now) registers compilation path c.in_ok-path.ensures.path c.translations.ensures.counted some size refs c.args.out_units.now.units.items c.add.new.self.units.items before after u (sym tested ∙ c.if-not-is_file_name.false) c.in_ok-add.ensures.ok last
+    let given : GivesUnit (is_noted c.args.translated.now) encoding c.deref-2.result.now (modules_of registers compilation) refs before after (Ok u) = subst (λ (ms : List Module). GivesUnit (is_noted c.args.translated.now) encoding c.deref-2.result.now ms refs before after (Ok u)) same c.in_ok-unit.ensures.unit in
+    let last : GivesUnit (is_noted c.args.translated.now) encoding path (modules_of registers compilation) refs before after (Ok u) = subst (λ (p : List ℕ). GivesUnit (is_noted c.args.translated.now) encoding p (modules_of registers compilation) refs before after (Ok u)) c.deref-2.ensures.value given in
+    last-added (is_noted c.args.translated.now) registers compilation path c.in_ok-path.ensures.path c.translations.ensures.counted some encoding refs c.args.out_units.now.units.items c.add.new.self.units.items before after u (sym tested ∙ c.if-not-is_file_name.false) c.in_ok-add.ensures.ok last

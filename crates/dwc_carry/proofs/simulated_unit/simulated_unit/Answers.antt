@@ -28,15 +28,15 @@ returns-in_err-add_modules-clause-unit g c =
     let registers = (goal.TargetIsa-dyn g c.args.isa.now).dwarf_registers c.args.isa.now.1 in
     let ms = modules_of registers compilation in
     let pointers = map reference_meant c.args.vmctx_ptrs.now in
-    let size = c.args.encoding.address_size in
+    let encoding = c.args.encoding in
     let path = c.args.path.now in
     let middle = c.typed_unit.new.strings in
     let u = c.in_ok-unit.unit in
     let fs = map simulated_view c.in_ok-functions.functions.items in
     let simulated = c.in_ok-functions.ensures.simulated ∙ ap (left_in translated compilation.translations) c.requires.transforms ∙ all-left registers compilation translated c.in_ok-functions.ensures.counted in
-    let typed = subst (λ xs. IsTyped size path (map simulated_view xs) middle u) c.deref.ensures.value c.in_ok-unit.ensures.typed in
+    let typed = subst (λ xs. IsTyped encoding path (map simulated_view xs) middle u) c.deref.ensures.value c.in_ok-unit.ensures.typed in
     let p = err_from_is_err_and c.from_residual-in_err-add_modules.result c.from_residual-in_err-add_modules.ensures.1 in
-    rw (p.1, p.2) (c.in_err-add_modules.ensures.entries 0 (simulated_unit translated path 0 pointers ms) (modules-left translated size path 0 pointers ms fs middle u simulated typed))
+    rw (p.1, p.2) (c.in_err-add_modules.ensures.entries 0 (simulated_unit translated path 0 pointers ms) (modules-left translated encoding path 0 pointers ms fs middle u simulated typed))
 
 pub returns-clause-unit : goal.returns-clause-unit
 returns-clause-unit g c =
@@ -45,16 +45,16 @@ returns-clause-unit g c =
     let registers = (goal.TargetIsa-dyn g c.args.isa.now).dwarf_registers c.args.isa.now.1 in
     let ms = modules_of registers compilation in
     let pointers = map reference_meant c.args.vmctx_ptrs.now in
-    let size = c.args.encoding.address_size in
+    let encoding = c.args.encoding in
     let path = c.args.path.now in
     let middle = c.typed_unit.new.strings in
     let u = c.in_ok-unit.unit in
     let fs = map simulated_view c.in_ok-functions.functions.items in
     let simulated = c.in_ok-functions.ensures.simulated ∙ ap (left_in translated compilation.translations) c.requires.transforms ∙ all-left registers compilation translated c.in_ok-functions.ensures.counted in
-    let typed = subst (λ xs. IsTyped size path (map simulated_view xs) middle u) c.deref.ensures.value c.in_ok-unit.ensures.typed in
-    let entries = λ (number : ℕ). c.in_ok-add_modules.ensures.entries number (simulated_unit translated path number pointers ms) (modules-left translated size path number pointers ms fs middle u simulated typed) in (
+    let typed = subst (λ xs. IsTyped encoding path (map simulated_view xs) middle u) c.deref.ensures.value c.in_ok-unit.ensures.typed in
+    let entries = λ (number : ℕ). c.in_ok-add_modules.ensures.entries number (simulated_unit translated path number pointers ms) (modules-left translated encoding path number pointers ms fs middle u simulated typed) in (
       (entries 0).0,
-      simulated_unit-made translated size path ms c.args.vmctx_ptrs.now fs c.args.strings.now middle c.add_modules.new.strings u c.add_modules.new.unit simulated c.in_ok-functions.ensures.fit c.typed_unit.ensures.grows c.add_modules.ensures.grows typed c.in_ok-add_modules.ensures.begins (λ number. (entries number).1),
+      simulated_unit-made translated encoding path ms c.args.vmctx_ptrs.now fs c.args.strings.now middle c.add_modules.new.strings u c.add_modules.new.unit simulated c.in_ok-functions.ensures.fit c.typed_unit.ensures.grows c.add_modules.ensures.grows typed c.in_ok-add_modules.ensures.begins (λ number. (entries number).1),
     )
 
 pub returns-in_err-add_modules-clause-grows : goal.returns-in_err-add_modules-clause-grows

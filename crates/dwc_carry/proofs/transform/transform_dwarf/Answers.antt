@@ -57,9 +57,9 @@ returns-in_err-transforms-clause-units g c =
 pub returns-clause-units : goal.returns-clause-units
 returns-clause-units g c =
     let short = lengths-short c.args.compilation.now (rw (c.deref.ensures.value, c.in_ok-transforms.ensures.transforms.1) at c.in_ok-check_lengths.ensures) in
-    let modules = rw (c.new.ensures, c.output_form-form.ensures.address_size, c.output_form-form.ensures.order) at c.in_ok-carried.ensures in
+    let modules = rw (c.new.ensures, c.output_form-form.ensures.encoding, c.tunables.ensures, c.output_form-form.ensures.order) at c.in_ok-carried.ensures in
     input-transformed _ c.args.compilation.now c.in_ok-transforms.ensures.counted _ _ _ c.carry_modules.new.dwarf.strings c.carry_modules.new.dwarf.units.units.items c.in_ok-carried.carried modules.1
-    c.generate_simulated_dwarf.new.out_strings c.generate_simulated_dwarf.new.out_units.units.items c.in_ok-transforms.ensures.transforms.0 short modules.0 (rw (c.output_form-form.ensures.address_size, c.deref-4.ensures.value) at c.in_ok-generate_simulated_dwarf.ensures.added)
+    c.generate_simulated_dwarf.new.out_strings c.generate_simulated_dwarf.new.out_units.units.items c.in_ok-transforms.ensures.transforms.0 short modules.0 (rw (c.output_form-form.ensures.encoding, c.tunables.ensures, c.deref-4.ensures.value) at c.in_ok-generate_simulated_dwarf.ensures.added)
 
 pub returns-in_err-check_lengths-clause-units : goal.returns-in_err-check_lengths-clause-units
 returns-in_err-check_lengths-clause-units g c =

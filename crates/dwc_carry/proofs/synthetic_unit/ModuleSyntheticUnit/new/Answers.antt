@@ -25,9 +25,9 @@ returns-clause-added c =
     let old = c.args.out_strings.now in
     let table = c.synthetic_texts.new.strings in
     let t = c.in_ok-texts.texts in
-    let size = c.args.encoding.address_size in
+    let encoding = c.args.encoding in
     let number = length c.args.out_units.now.units.items in
-    let made : c.in_ok-unit.unit ≡ synthetic_given size t m = c.in_ok-unit.ensures ∙ ap (synthetic_given size t) same in
+    let made : c.in_ok-unit.unit ≡ synthetic_given encoding t m = c.in_ok-unit.ensures ∙ ap (synthetic_given encoding t) same in
     let place = c.set_place-pointer.ensures ∙ ap place_of_set same in (
       near-accepted m (ap Synthetic.is_too_far (sym same) ∙ sym c.is_too_far.ensures ∙ c.if-is_too_far.false),
       record {
@@ -35,10 +35,10 @@ returns-clause-added c =
         added = c.in_ok-id.ensures.ok;
         grows = c.synthetic_texts.ensures.grows;
         is = λ at leads.
-            subst (λ u. IsMadeOf at size table number synthetic_unit (synthetic_tree number compilation.set_memory m) u) (sym made)
-            (synthetic-added size number old table t compilation.set_memory m (c.in_ok-texts.ensures.added ∙ ap (λ n. texts_added old (synthetic_texts n)) named) (c.in_ok-texts.ensures.numbers ∙ ap (λ n. numbers_added old (synthetic_texts n)) named) at
+            subst (λ u. IsMadeOf at encoding table number synthetic_unit (synthetic_tree number compilation.set_memory m) u) (sym made)
+            (synthetic-added encoding number old table t compilation.set_memory m (c.in_ok-texts.ensures.added ∙ ap (λ n. texts_added old (synthetic_texts n)) named) (c.in_ok-texts.ensures.numbers ∙ ap (λ n. numbers_added old (synthetic_texts n)) named) at
             (subst (λ u. LeadsTo at number (u ∷ [])) made leads));
-        numbered = subst (λ u. IsNumberedByPlaces u) (sym made) (synthetic-numbered size t m);
+        numbered = subst (λ u. IsNumberedByPlaces u) (sym made) (synthetic-numbered encoding t m);
         refers = record {
           context_pointer = pointer-is m c.set_place-pointer.result number c.in_ok-id.id c.entry_of.result place c.in_ok-id.ensures.id c.entry_of.ensures;
           wasm_pointer = wasm-is m c.set_place-pointer.result number c.in_ok-id.id c.entry_of-2.result place c.in_ok-id.ensures.id c.entry_of-2.ensures;
