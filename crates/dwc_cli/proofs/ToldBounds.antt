@@ -41,7 +41,7 @@ last-bounded (r ∷ rs) byte p all e = go (last_place rs byte) (is_between r.sta
     go None true later e = subst IsBoundedPlace (same_some r.place p e) (All-head IsBoundedRange r rs all)
     go None false later e = absurd (cc)
 
-module _ (registers : Registers) (names : LinkageNames) (numbers : HoldsIn IsRegister registers) where
+module _ (version : ℕ) (registers : Registers) (names : LinkageNames) (numbers : HoldsIn IsRegister registers) where
   module-told : (place first : ℕ) (m : MapModule) → IsBoundedModule m → IsToldBounded (inputs.told_of registers names place first m)
   module-told place first m b = record {
     registers = λ r n at. numbers r n at;
@@ -49,11 +49,11 @@ module _ (registers : Registers) (names : LinkageNames) (numbers : HoldsIn IsReg
     memory = b.memory;
   }
 
-  modules-told : (place first : ℕ) (ws : List WasmModule) (ms : List MapModule) → All IsBoundedModule ms → All (λ (m : Module). IsToldBounded m.told) (inputs.modules_of registers names place first ws ms)
+  modules-told : (place first : ℕ) (ws : List WasmModule) (ms : List MapModule) → All IsBoundedModule ms → All (λ (m : Module). IsToldBounded m.told) (inputs.modules_of version registers names place first ws ms)
   modules-told place first [] ms all = All-nil (λ (m : Module). IsToldBounded m.told)
   modules-told place first (w ∷ ws) [] all = All-nil (λ (m : Module). IsToldBounded m.told)
   modules-told place first (w ∷ ws) (m ∷ ms) all =
-      All-cons (λ (m : Module). IsToldBounded m.told) _ (inputs.modules_of registers names (suc place) (first + length m.functions) ws ms) (module-told place first m (All-head IsBoundedModule m ms all))
+      All-cons (λ (m : Module). IsToldBounded m.told) _ (inputs.modules_of version registers names (suc place) (first + length m.functions) ws ms) (module-told place first m (All-head IsBoundedModule m ms all))
       (modules-told (suc place) (first + length m.functions) ws ms (All-tail IsBoundedModule m ms all))
 
 -- of what some files hold
@@ -65,4 +65,4 @@ told-bounded input read e =
     let whole : Loaded = record { wasm = ws.0; map_file = m.0 } in
     let bounded = map-bounded (defined_counts ws.0) input.map_bytes m.0 m.1 in
     subst (λ (r : Loaded). All (λ (x : Module). IsToldBounded x.told) (compilation_of r).modules) (same_some whole read m.2)
-    (modules-told m.0.target.registers (names_of m.0) bounded.registers 0 0 ws.0 m.0.modules bounded.modules)
+    (modules-told m.0.target.version m.0.target.registers (names_of m.0) bounded.registers 0 0 ws.0 m.0.modules bounded.modules)

@@ -6,9 +6,8 @@ use Rattle.dwc_base.specs.declared.output.DwarfSection.{DwarfSection}
 use Rattle.dwc_base.specs.declared.translation.ModuleTranslation.{ModuleTranslation}
 use Rattle.dwc_base.specs.Outputs.{OutputSection, section_view}
 use Rattle.dwc_rules.specs.Refusals.{Refusal}
-use Rattle.dwc_carried.specs.Forests.{first_refusal, trees_made}
+use Rattle.dwc_carried.specs.Forests.{first_refusal}
 use Rattle.dwc_carried.specs.OutputCarried.{OutputCarried}
-use Rattle.dwc_dwarf.specs.TreeLaws.{have_short_expressions}
 use Rattle.dwc_base.specs.Wasm.{WasmModule}
 use Rattle.dwc_base.specs.Translations.{IsWholeTranslation}
 use Rattle.dwc_carry.specs.declared.emit.CarriedDwarf.{CarriedDwarf}
@@ -21,7 +20,7 @@ use Rattle.dwc_map.specs.MapFile.{map_in_bytes}
 use Rattle.dwc_map.specs.MapViews.{map_file_view}
 use Rattle.dwc_cli.specs.Inputs.{Paths, all_paths, Input, all_files, wasm_modules, Loaded, loaded, compilation_of, shared_in, BadMap, bad_map}
 use Rattle.dwc_cli.specs.Printed.{printed, is_plain, is_line}
-use Rattle.dwc_cli.specs.RunStatus.{AreWhole, Files, Rose, Appended, IsOneOf, WasmCause, MapCause, refusal_status, PassesLimit, LoadedCauses, IsValid}
+use Rattle.dwc_cli.specs.RunStatus.{AreWhole, Files, Rose, Appended, IsOneOf, WasmCause, MapCause, refusal_status, PassesLimit, has_short_expressions, LoadedCauses, IsValid}
 use Rattle.dwc_cli.specs.Calls.{Call, last_opened}
 use Rattle.dwc_cli.specs.Edge.{IsReadFile}
 use Rattle.dwc_cli.specs.Failures.{failure_status, carrying_status, usage_message, fault_message, length_message, write_message, failure_message, line_of}
@@ -74,7 +73,7 @@ hindrance read = first_status (shared_in read) (bad_map read) (first_refusal (co
 pub record IsEmitted (read : Loaded) (sections : List OutputSection) : Type 0 where
   pub unhindered : hindrance read ≡ None
   pub carried : OutputCarried (compilation_of read) sections
-  pub short : have_short_expressions (trees_made (compilation_of read)) ≡ true
+  pub short : has_short_expressions (compilation_of read) ≡ true
   pub whole : AreWhole (compilation_of read).order sections
 
 -- why no sections are emitted, by the status: for want of memory, by a hindrance, or for a limit that is passed
@@ -97,7 +96,7 @@ pub record CarriesRead (read : Loaded) (text : List ℕ) : Type 0 where
   pub sections : List OutputSection
   pub plain : list_all is_plain sections ≡ true
   pub carried : OutputCarried (compilation_of read) sections
-  pub short : have_short_expressions (trees_made (compilation_of read)) ≡ true
+  pub short : has_short_expressions (compilation_of read) ≡ true
   pub whole : AreWhole (compilation_of read).order sections
   pub text_is : text ≡ printed sections
 

@@ -84,25 +84,25 @@ told_of registers names place number m = record {
   names = names;
 }
 
--- the modules of a compilation from a place on: the sections of a file, the functions of the map, numbered over all modules, and what
--- the map tells beside them
-abbrev pub modules_of : Registers → LinkageNames → ℕ → ℕ → List WasmModule → List MapModule → List Module
-modules_of registers names place number [] ms = []
-modules_of registers names place number (w ∷ ws) [] = []
-modules_of registers names place number (w ∷ ws) (m ∷ ms) =
+-- the modules of a compilation from a place on, carried to a version: the sections of a file, the functions of the map, numbered over all
+-- modules, and what the map tells beside them
+abbrev pub modules_of : ℕ → Registers → LinkageNames → ℕ → ℕ → List WasmModule → List MapModule → List Module
+modules_of version registers names place number [] ms = []
+modules_of version registers names place number (w ∷ ws) [] = []
+modules_of version registers names place number (w ∷ ws) (m ∷ ms) =
     record {
       sections = module_sections w;
       functions = functions_of w.code_offset number (map (λ f. f.address_map) m.functions);
       told = told_of registers names place number m;
       file = file_of m.path w;
       compressed = w.compressed;
-      version = 4;
+      version = version;
     }
-    ∷ modules_of registers names (suc place) (number + length m.functions) ws ms
+    ∷ modules_of version registers names (suc place) (number + length m.functions) ws ms
 
 -- the compilation of a map and modules
 abbrev pub compilation : MapFile → List WasmModule → Compilation
-compilation m ws = record { order = if m.target.big_endian then Big else Little; pointer_bytes = m.target.pointer_bytes; modules = modules_of m.target.registers (names_of m) 0 0 ws m.modules; next_id = m.next_id; common_entry = m.target.common_entry; version = 4 }
+compilation m ws = record { order = if m.target.big_endian then Big else Little; pointer_bytes = m.target.pointer_bytes; modules = modules_of m.target.version m.target.registers (names_of m) 0 0 ws m.modules; next_id = m.next_id; common_entry = m.target.common_entry; version = m.target.version }
 
 -- what was read of an input: its modules, and its map
 pub record Loaded : Type 0 where

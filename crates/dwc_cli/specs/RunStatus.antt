@@ -1,5 +1,5 @@
 -- What each status of a run says. Want of memory, status 9, may come at any time.
-use Rattle.std.specs.Prelude.{length, ◌≡◌, ◌⊎◌, ℕ, ◌+◌, ◌-◌, ◌^◌, ◌<◌, ◌≤◌, min, List, [], ◌∷◌, ◌++◌, take, true, false, Option, Some, None, option_map, IsSome, IsNone, IfSome, Ok, Err, All, Any}
+use Rattle.std.specs.Prelude.{length, ◌≡◌, ◌⊎◌, ℕ, ◌+◌, ◌-◌, ◌^◌, ◌<◌, ◌≤◌, min, List, [], ◌∷◌, ◌++◌, take, Bool, true, false, Option, Some, None, option_map, IsSome, IsNone, IfSome, Ok, Err, All, Any}
 use Rattle.std.specs.Ordering.{nat_cmp}
 use Rattle.std.specs.Cmp.Lexicographic.{slice_cmp}
 use Rattle.std.specs.FinMap as map
@@ -14,7 +14,7 @@ use Rattle.dwc_native.specs.FrameRefusals.{bad_code_offset, bad_data_offset}
 use Rattle.dwc_rules.specs.Carried.{Compilation}
 use Rattle.dwc_carried.specs.Forests.{first_refusal, trees_made}
 use Rattle.dwc_carried.specs.OutputCarried.{OutputCarried, widest}
-use Rattle.dwc_dwarf.specs.TreeLaws.{have_short_expressions}
+use Rattle.dwc_output.specs.Versions.{are_short_in}
 use Rattle.dwc_write.specs.SpelledOutput.{AreSpelled}
 use Rattle.dwc_section.specs.Writers.{IsSound}
 use Rattle.dwc_map.specs.MapFile.{map_of_bytes}
@@ -51,6 +51,10 @@ pub record Reads (words : List (List ℕ)) (before now : List Call) (input : Inp
 abbrev pub Appended : Option (List ℕ) → Option (List ℕ) → List ℕ → Type 0
 Appended before now text = IfSome before (λ w. now ≡ Some (w ++ text))
 
+-- Whether no expression of a location list of what is made of a compilation is too long for the version that is asked for.
+abbrev pub has_short_expressions : Compilation → Bool
+has_short_expressions c = are_short_in c.version (trees_made c)
+
 -- Nothing that is read of an input is refused, sections carry it, of which one text alone is printed, and no expression of a location list
 -- is too long.
 pub record CarryInput (input : Input) (sections : List OutputSection) : Type 0 where
@@ -59,7 +63,7 @@ pub record CarryInput (input : Input) (sections : List OutputSection) : Type 0 w
   pub accepted : first_refusal (compilation_of read) ≡ None
   pub plain : list_all is_plain sections ≡ true
   pub carried : OutputCarried (compilation_of read) sections
-  pub short : have_short_expressions (trees_made (compilation_of read)) ≡ true
+  pub short : has_short_expressions (compilation_of read) ≡ true
 
 -- Sections are whole as a linker takes them: each has at most 2^31 - 1 bytes, in which the addends of its relocations stand; and they have no
 -- byte but those that the spelling of some units needs.
@@ -179,7 +183,7 @@ pub record RefusalCause (read : Loaded) (status : ℕ) : Type 0 where
 -- what is made of a compilation passes a limit: a section could be longer than 2 ^ 31 - 1 bytes, or an expression of a location list is
 -- too long
 abbrev pub PassesLimit : Compilation → Type 0
-PassesLimit c = ((name : SectionName) × (2 ^ 31 ≤ widest name c)) ⊎ (have_short_expressions (trees_made c) ≡ false)
+PassesLimit c = ((name : SectionName) × (2 ^ 31 ≤ widest name c)) ⊎ (has_short_expressions c ≡ false)
 
 -- 20: only where the first refusal is of that status; or where nothing is refused, and a limit is passed
 abbrev pub TooLargeCause : Loaded → ℕ → Type 0
@@ -218,7 +222,7 @@ pub record IsValid (read : Loaded) : Type 0 where
   pub maps : bad_map read ≡ None
   pub accepted : first_refusal (compilation_of read) ≡ None
   pub small : (name : SectionName) → widest name (compilation_of read) < 2 ^ 31
-  pub short : have_short_expressions (trees_made (compilation_of read)) ≡ true
+  pub short : has_short_expressions (compilation_of read) ≡ true
 
 -- an input is valid and not too long, and nothing failed: the counts of faults did not rise
 pub record IsWell (input : Input) (read_before read_now write_before write_now : ℕ) : Type 0 where

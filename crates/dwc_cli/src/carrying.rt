@@ -25,13 +25,17 @@ use dwc_isa::{ModuleMemoryOffset, TableIsa};
 use dwc_map::{MapFile, MapModule, Names, Target};
 use std::alloc::{AllocError, Global};
 
-// How code is generated and laid out, as far as a map does not tell it.
-const TUNABLES: Tunables = Tunables {
-    debug_symbols: true,
-    page_align: 4096,
-    internal_traps: false,
-    dwarf_version: 4,
-};
+// How code is generated and laid out, as far as a map does not tell it, and the version of DWARF that is written.
+fn tunables(version: u16) -> Tunables
+    ensures { result.dwarf_version ≡ version }
+{
+    Tunables {
+        debug_symbols: true,
+        page_align: 4096,
+        internal_traps: false,
+        dwarf_version: version,
+    }
+}
 
 // The DWARF that the one of some modules carries over to, for the functions of a map of these modules. Nothing of the map and of the
 // translations is held behind it.
@@ -78,18 +82,21 @@ fn carry_at(
     memory_offsets: Vec<ModuleMemoryOffset>,
     next_id: u64,
 ) -> Result<CarriedDwarf, Failure<'static>>
+    requires version { (target.version ≡ 4) ⊎ (target.version ≡ 5) }
     requires size { (target.pointer_bytes ≡ 4) ⊎ (target.pointer_bytes ≡ 8) }
     requires sound { is_sound_if (option_map cie_view target.cie) ≡ true }
     requires counted { IsCounted translations.now (lists functions.now) memory_offsets.items }
     requires names { AreNames (string_bytes names.now.set) (string_bytes names.now.resolve) }
     requires sorted { All HasSortedNames translations.now }
-    ensures carried { (read : Loaded) → IsCompiled (if target.big_endian then Big else Little) target.pointer_bytes (registers_of target.registers.items) (option_map cie_view target.cie) (linkage_names names.now) translations.now (lists functions.now) memory_offsets.items next_id read → Carries read result }
+    ensures carried { (read : Loaded) → IsCompiled target.version (if target.big_endian then Big else Little) target.pointer_bytes (registers_of target.registers.items) (option_map cie_view target.cie) (linkage_names names.now) translations.now (lists functions.now) memory_offsets.items next_id read → Carries read result }
     ensures ready { IfOk result IsReady }
 {
+    let tunables = tunables(target.version);
     let isa = table_of(alloc, target)?;
     compiled(
         alloc,
         &isa,
+        &tunables,
         translations,
         functions,
         names,
@@ -102,16 +109,18 @@ fn carry_at(
 fn compiled<'a>(
     alloc: Global,
     isa: &TableIsa,
+    tunables: &'a Tunables,
     translations: &'a [ModuleTranslation<'a>],
     functions: &'a [Vec<(Option<SymbolId>, CompiledFunctionMetadata)>],
     names: &'a Names,
     memory_offsets: Vec<ModuleMemoryOffset>,
     next_id: u64,
 ) -> Result<CarriedDwarf, Failure<'static>>
+    requires version { (tunables.now.dwarf_version ≡ 4) ⊎ (tunables.now.dwarf_version ≡ 5) }
     requires counted { IsCounted translations.now (lists functions.now) memory_offsets.items }
     requires names { AreNames (string_bytes names.now.set) (string_bytes names.now.resolve) }
     requires sorted { All HasSortedNames translations.now }
-    ensures carried { (read : Loaded) → IsCompiled isa.now.order isa.now.pointer_bytes isa.now.registers isa.now.common_entry (linkage_names names.now) translations.now (lists functions.now) memory_offsets.items next_id read → Carries read result }
+    ensures carried { (read : Loaded) → IsCompiled tunables.now.dwarf_version isa.now.order isa.now.pointer_bytes isa.now.registers isa.now.common_entry (linkage_names names.now) translations.now (lists functions.now) memory_offsets.items next_id read → Carries read result }
     ensures ready { IfOk result IsReady }
 {
     let names = LinkageNames {
@@ -124,7 +133,7 @@ fn compiled<'a>(
         translations,
         functions,
         None,
-        &TUNABLES,
+        tunables,
         memory_offsets,
         names,
         next_id,
@@ -138,6 +147,7 @@ fn carry_for(
     isa: &TableIsa,
     compilation: &mut Compilation<'_>,
 ) -> Result<CarriedDwarf, DebugError>
+    requires version { (compilation.old.tunables.dwarf_version ≡ 4) ⊎ (compilation.old.tunables.dwarf_version ≡ 5) }
     ensures carried { carrying.Carries isa.now.order isa.now.pointer_bytes isa.now.registers isa.now.common_entry compilation.old result }
     ensures ready { IfOk result IsReady }
 {
