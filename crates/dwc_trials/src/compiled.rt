@@ -141,7 +141,8 @@ pub(crate) fn compilation_of<'a>(
     requires modules { map (λ m. m.defined_funcs) modules.now ≡ 1 ∷ [] }
     requires functions { map length (lists functions.now) ≡ 1 ∷ [] }
     requires sorted { All HasSortedNames modules.now }
-    ensures { IfOk result (λ c. c.translations ≡ modules.now) }
+    ensures modules { IfOk result (λ c. c.translations ≡ modules.now) }
+    ensures version { IfOk result (λ c. c.tunables.dwarf_version ≡ 4) }
 {
     compilation_over(alloc, isa, modules, functions, &TUNABLES, NAMES)
 }
@@ -159,7 +160,8 @@ fn compilation_over<'a>(
     requires functions { map length (lists functions.now) ≡ 1 ∷ [] }
     requires names { AreNames names.set_memory.now names.resolve_memory.now }
     requires sorted { All HasSortedNames modules.now }
-    ensures { IfOk result (λ c. c.translations ≡ modules.now) }
+    ensures modules { IfOk result (λ c. c.translations ≡ modules.now) }
+    ensures version { IfOk result (λ c. c.tunables ≡ tunables.now) }
 {
     let mut offsets = Vec::new(alloc);
     offsets.push(ModuleMemoryOffset::None)?;

@@ -5,9 +5,10 @@ ghost use Rattle.dwc_base.specs.TranslationNames.{HasSortedNames};
 use crate::compiled::{compilation_of, framed_functions};
 use crate::module_file::SMALL;
 use crate::targets::framed_target;
+use dwc_addr::Compilation;
 use dwc_base::{DwarfSection, ModuleTranslation};
 use dwc_carry::{DebugError, emit_dwarf};
-use dwc_clif::{CfaUnwindInfo, FrameOp};
+use dwc_clif::{CfaUnwindInfo, FrameOp, TableIsa};
 use dwc_wasm::split_wasm;
 use std::alloc::{AllocError, Global};
 use std::test::Fail;
@@ -28,6 +29,14 @@ fn is_refused(answer: Result<Vec<DwarfSection>, DebugError>) -> bool {
     )
 }
 
+// Whether they are refused of a compilation that asks for version 4, which it does behind it too.
+fn refuses(alloc: Global, isa: &TableIsa, compilation: &mut Compilation<'_>) -> bool
+    requires { compilation.old.tunables.dwarf_version ≡ 4 }
+    ensures { compilation.new.tunables.dwarf_version ≡ 4 }
+{
+    is_refused(emit_dwarf(alloc, isa, compilation))
+}
+
 // The answers to a compilation of a module whose function has that frame, given twice, and its counter behind each.
 fn given_twice(alloc: Global, modules: &[ModuleTranslation<'_>]) -> Result<[(bool, u64); 2], Fail>
     requires modules { map (λ m. m.defined_funcs) modules.now ≡ 1 ∷ [] }
@@ -37,9 +46,9 @@ fn given_twice(alloc: Global, modules: &[ModuleTranslation<'_>]) -> Result<[(boo
     let functions = framed_functions(alloc, (22, 33), &entries, Some(falling(alloc)?))?;
     let isa = framed_target(alloc)?;
     let mut compilation = compilation_of(alloc, &isa, modules, &functions)?;
-    let first = is_refused(emit_dwarf(alloc, &isa, &mut compilation));
+    let first = refuses(alloc, &isa, &mut compilation);
     let counted = compilation.next_id();
-    let second = is_refused(emit_dwarf(alloc, &isa, &mut compilation));
+    let second = refuses(alloc, &isa, &mut compilation);
     Ok([(first, counted), (second, compilation.next_id())])
 }
 
