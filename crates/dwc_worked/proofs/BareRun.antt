@@ -25,7 +25,7 @@ use Rattle.dwc_worked.proofs.SyntheticTrees.{synthetic_tree}
 use Rattle.dwc_worked.proofs.SimulatedInputs.{simulated_front, simulated_function}
 use Rattle.dwc_worked.proofs.SimulatedOutput.{output_simulated, lines-simulated}
 use Rattle.dwc_cli.specs.Inputs.{Loaded, compilation_of}
-use Rattle.dwc_cli.specs.RunStatus.{CarryInput}
+use Rattle.dwc_cli.specs.RunStatus.{CarryInput, has_short_expressions}
 use Rattle.dwc_worked.proofs.OutputParts.{all-from, names-from, no_section}
 use Rattle.dwc_worked.proofs.WholeRun.{whole_on_literals, told_bare, told-bare, one_told, runtime_names, path_small, address_map_small}
 use Rattle.dwc_worked.proofs.BrokenInputs.{file_bare, with_small_map}
@@ -148,7 +148,7 @@ carries-bare = record {
   accepted = ap first_refusal bare-told ∙ none-refused;
   plain = refl;
   carried = subst (λ c. OutputCarried c output_bare) (sym bare-told) carried_bare;
-  short = ap (λ c. have_short_expressions (trees_made c)) bare-told ∙ all-short;
+  short = ap has_short_expressions bare-told ∙ all-short;
 }
 
 -- and an output without units carries nothing, since the synthetic unit is missing

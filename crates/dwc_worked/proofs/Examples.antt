@@ -17,7 +17,7 @@ map_bytes_small = codes "{\"target\":{\"arch\":\"x86_64\"},\"names\":[\"set_mem\
 
 abbrev pub map_small : MapFile
 map_small = record {
-  target = record { architecture = X86_64; big_endian = false; pointer_bytes = 8; registers = finite.empty; common_entry = None };
+  target = record { architecture = X86_64; big_endian = false; pointer_bytes = 8; version = 4; registers = finite.empty; common_entry = None };
   set_memory = codes "set_mem";
   resolve_memory = codes "resolve_mem";
   modules =

@@ -22,7 +22,7 @@ use Rattle.dwc_worked.proofs.OnFrames.{frames_on_literals}
 use Rattle.dwc_output.proofs.SimulatedLineLaws.{simulated_segment-is}
 use Rattle.dwc_cli.specs.Inputs.{Input, Loaded, loaded, compilation_of}
 use Rattle.dwc_cli.specs.Printed.{printed, is_plain}
-use Rattle.dwc_cli.specs.RunStatus.{Carries, CarryInput}
+use Rattle.dwc_cli.specs.RunStatus.{Carries, CarryInput, has_short_expressions}
 use Rattle.dwc_cli.proofs.PrintedLaws.{printed_injective}
 use Rattle.dwc_worked.proofs.WholeRun.{whole_on_literals, read_in}
 use Rattle.dwc_worked.proofs.OutputParts.{names-from}
@@ -130,7 +130,7 @@ carries-framed = record {
   accepted = refusal-grows;
   plain = refl;
   carried = subst (λ c. OutputCarried c output_framed) (sym told-grows) carried-framed;
-  short = ap (λ c. have_short_expressions (trees_made c)) told-grows ∙ all-short;
+  short = ap has_short_expressions told-grows ∙ all-short;
 }
 
 -- ---- other texts

@@ -40,7 +40,7 @@ use Rattle.dwc_worked.proofs.OutputSmall.{HasForm, scopes-small, locations-small
 use Rattle.dwc_map.specs.MapFile.{MapFunction}
 use Rattle.dwc_cli.specs.Inputs.{Input, Loaded, loaded, compilation_of, ranges_of, told_of}
 use Rattle.dwc_map.proofs.OnLiterals.{map_on_literals}
-use Rattle.dwc_cli.specs.RunStatus.{CarryInput}
+use Rattle.dwc_cli.specs.RunStatus.{CarryInput, has_short_expressions}
 use Rattle.dwc_worked.proofs.Examples.{map_bytes_small, map_small}
 use Rattle.dwc_worked.proofs.OutputParts.{all-from, names-from, no_section}
 use Rattle.dwc_worked.proofs.WholeOutput.{output_whole, trees_whole}
@@ -208,8 +208,8 @@ all-short : have_short_expressions (trees_made compilation_whole) ≡ true
 unfolding whole_on_literals
 all-short = refl
 
-pub short-small : have_short_expressions (trees_made (compilation_of read_small)) ≡ true
-short-small = ap (λ c. have_short_expressions (trees_made c)) compilation-small ∙ all-short
+pub short-small : has_short_expressions (compilation_of read_small) ≡ true
+short-small = ap has_short_expressions compilation-small ∙ all-short
 
 -- no section of it can be long
 all-narrow : (name : SectionName) → widest name compilation_whole < 2 ^ 31
