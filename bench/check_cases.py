@@ -8,6 +8,7 @@ import sys
 import tempfile
 
 import plain_run
+from output_lists import PLACES, RANGES, all_lists, counts_of_dwarfdump, counts_of_readelf, is_new, list_at, pairs_of_dwarfdump, places_of_eu_readelf, ranges_of_readelf
 from plain_entries import AT_HIGH_PC, AT_LOW_PC, AT_NAME, AT_RANGES, AT_TYPE, TAG_COMPILE_UNIT, Reader, read_units, target_of, text_of
 from plain_expressions import OPERANDS
 from printed_frames import read_frames, told_frames
@@ -57,6 +58,19 @@ def texts_of(text):
     return [piece.decode() for piece in body_of(text, ".debug_str").split(b"\0")[:-1]]
 
 
+def paths_of(text):
+    """The names in line tables of version 5, in order."""
+    return [piece.decode() for piece in body_of(text, ".debug_line_str").split(b"\0")[:-1]]
+
+
+def tables_of(text):
+    """Of each unit with a line table of version 5, with the lowest byte of a number first, the directories and the files, both from number 0 on."""
+    sections = {name: bytes(body) for name, body, _ in sections_of(text)}
+    tables = [plain_run.read_line_table(sections, unit, unit.line_table) for unit in read_units(sections) if unit.line_table is not None]
+    decoded = lambda names: [name.decode() for name in names]
+    return [(decoded([table.own, *table.directories]), [(directory, name.decode()) for directory, name in table.files]) for table in tables]
+
+
 def rows_of(text):
     """Of each line sequence of the printed sections the offsets and lines of its rows, by either byte order and address size."""
     body = body_of(text, ".debug_line")
@@ -70,8 +84,9 @@ def rows_of(text):
 
 
 def table_rows(table, order):
-    header = int.from_bytes(table[2:6], order)
-    reader = plain_run.Reader(table, 6 + header)
+    fields = 4 if int.from_bytes(table[:2], order) == 5 else 2  # the version, and in version 5 two sizes
+    header = int.from_bytes(table[fields : fields + 4], order)
+    reader = plain_run.Reader(table, fields + 4 + header)
     sequences, rows, offset, line = [], [], 0, 1
     while reader.at < len(table):
         opcode = reader.number(1)
@@ -127,26 +142,9 @@ def module_units(sections):
 def entry_code(sections, unit, entry):
     low_pc, high_pc, ranges = map(entry.value, (AT_LOW_PC, AT_HIGH_PC, AT_RANGES))
     if ranges:
-        pairs = list_at(sections[".debug_ranges"], ranges[1], unit.address_size, "little")
+        pairs, _ = list_at(sections, RANGES, ranges[1], unit.address_size, "little")
         return f"[{' '.join(f'{begin}-{end}' for begin, end in pairs)}]"
     return low_pc and f"{low_pc[1]}" + (f"+{high_pc[2]}" if high_pc else "")
-
-
-def list_at(body, at, size, order):
-    """The pairs of a list of `.debug_ranges`."""
-    reader, pairs = Reader(body, at), []
-    while any(pair := tuple(int.from_bytes(reader.take(size), order) for _ in range(2))):
-        pairs.append(pair)
-    return pairs
-
-
-def lists_of(text, size, order):
-    """The offset of each list of `.debug_ranges`, with its pairs."""
-    body, at, lists = body_of(text, ".debug_ranges"), 0, []
-    while at < len(body):
-        lists.append((at, list_at(body, at, size, order)))
-        at += 2 * size * (len(lists[-1][1]) + 1)
-    return lists
 
 
 def places_of(text):
@@ -182,27 +180,14 @@ def value_said(sections, unit, value):
     """What an expression or a location list says."""
     if value[0] == "expression":
         return value[1].hex()
-    found, _ = locations_at(sections[".debug_loc"], value[1], unit.address_size, "little")
+    found, _ = list_at(sections, PLACES, value[1], unit.address_size, "little")
     return f"[{' '.join(f'{begin}-{end} {data.hex()}'.strip() for begin, end, data in found)}]"
 
 
-def locations_at(body, at, size, order):
-    """The begins, ends and expressions of a list of `.debug_loc`, and where the list ends."""
-    number = lambda count: int.from_bytes(reader.take(count), order)
-    reader, found = Reader(body, at), []
-    while any(pair := (number(size), number(size))):
-        found.append((*pair, reader.take(number(2))))
-    return found, reader.at
-
-
-def location_lists(text, size, order):
-    """The offset of each list of `.debug_loc`, with the begins, the ends and the places of the operations of its entries."""
-    body, at, lists = body_of(text, ".debug_loc"), 0, []
-    while at < len(body):
-        found, end = locations_at(body, at, size, order)
-        lists.append((at, [(begin, stop, operation_places(data)) for begin, stop, data in found]))
-        at = end
-    return lists
+def location_lists(sections, size, order):
+    """The offset of each location list, with the begins, the ends and the places of the operations of its entries."""
+    lists = all_lists(sections, PLACES, size, order)
+    return [(at, [(begin, end, operation_places(data)) for begin, end, data in found]) for at, found in lists]
 
 
 def operation_places(data):
@@ -295,37 +280,6 @@ def printed_rows(lines):
     return [(int(address, 16), int(line)) for address, line in rows]
 
 
-def printed_lists(lines):
-    """The range lists that llvm-dwarfdump or readelf prints: their offsets, and their pairs."""
-    lists = {}
-    for line in lines:
-        words = line.split()
-        if len(words) > 1 and all(len(word) >= 8 and set(word) <= HEXADECIMAL for word in words[:2]):
-            lists.setdefault(int(words[0], 16), []).append((int(words[1], 16), int(words[2], 16)))
-        elif words[1:] == ["<End", "of", "list>"]:
-            lists.setdefault(int(words[0], 16), [])
-    return list(lists.items())
-
-
-HEXADECIMAL = set("0123456789abcdef")
-
-
-def printed_locations(lines):
-    """The location lists that eu-readelf prints: as `location_lists` says them."""
-    lists, entries = [], []
-    for line in lines:
-        found = re.match(r" \[ *([0-9a-f]+)\] (range|<|empty list)", line)
-        if found:
-            entries = []
-            lists.append((int(found[1], 16), entries))
-        bounds = re.search(r"range ([0-9a-f]+), ([0-9a-f]+)$", line)
-        if bounds:
-            entries.append((int(bounds[1], 16), int(bounds[2], 16), []))
-        elif place := re.match(r"           +\[ *([0-9]+)\]", line):
-            entries[-1][2].append(int(place[1]))
-    return lists
-
-
 def printed_code(lines):
     """What llvm-dwarfdump prints of the code of entries, as `code_of` says it."""
     said, entries = [], "\n".join(lines).split("DW_TAG_")[1:]
@@ -397,38 +351,44 @@ def verified(sections, order, size, lengths):
 
 def complaints(text, order, size, path):
     """What outside tools read otherwise in an output than it says, and what they complain of."""
+    sections = {name: bytes(body) for name, body, _ in sections_of(text)}
     lines, _ = asked("llvm-dwarfdump", "--debug-line", path)
     units, errors = asked_of_entries(text, order, path)
-    ranges, _ = asked("llvm-dwarfdump", "--debug-ranges", path)
-    locations, _ = asked("llvm-dwarfdump", "--debug-loc", path)
-    others, _ = asked("readelf", "--debug-dump=Ranges", path)
-    lists, of_entries = lists_of(text, size, order), printed_lists(others)
-    compared = [(printed_rows(lines), [row for rows in rows_of(text) for row in rows]), (printed_lists(ranges), lists)]
-    compared.append((of_entries, [pair for pair in lists if pair[0] in dict(of_entries)]))  # readelf reads those of `ranges` alone
+    compared = [(printed_rows(lines), [row for rows in rows_of(text) for row in rows])]
     if units is not None:
-        compared.append((len(of_entries), sum("DW_AT_ranges" in line for line in units)))
         compared += [(printed_code(units), code_in(text, read_units))] if order == "little" else []
-    compared += compared_locations(text, order, size, path, locations)
+    compared += compared_ranges(sections, order, size, path, units)
+    locations, _ = asked("llvm-dwarfdump", "--debug-loclists" if is_new(sections) else "--debug-loc", path)
+    compared += compared_locations(sections, order, size, path, locations)
+    others, _ = asked("eu-readelf", "--debug-dump=info", path)
+    if order == "little":
+        compared += [(printed_expressions(others), expressions_of(text)), (printed_references(others), references_of(text))]
     found = [pair for pair in compared if pair[0] != pair[1]]
     bad = [line for line in (units or []) + locations if "decoding error" in line]
     return found + bad[:3] + ([errors[:300]] if "error" in errors or "warning" in errors else [])
 
 
-def compared_locations(text, order, size, path, lines):
-    """The location lists, expressions and references that llvm-dwarfdump, readelf and eu-readelf print, each beside what the output says."""
-    lists = location_lists(text, size, order)
+def compared_ranges(sections, order, size, path, units):
+    """The range lists that llvm-dwarfdump and readelf print, each beside what the output says. readelf reads those of `ranges` alone, and in
+    version 5 not all of these."""
+    lists = all_lists(sections, RANGES, size, order)
+    others = ranges_of_readelf(asked("readelf", "--debug-dump=Ranges", path)[0])
+    compared = [(others, [pair for pair in lists if pair[0] in dict(others)])]
+    if is_new(sections):
+        printed = pairs_of_dwarfdump(asked("llvm-dwarfdump", "--debug-rnglists", path)[0])
+        return compared + [(printed, [pair for _, pairs in lists for pair in pairs])]
+    compared.append((ranges_of_readelf(asked("llvm-dwarfdump", "--debug-ranges", path)[0]), lists))
+    return compared + ([] if units is None else [(len(others), sum("DW_AT_ranges" in line for line in units))])
+
+
+def compared_locations(sections, order, size, path, lines):
+    """The location lists that llvm-dwarfdump, readelf and eu-readelf print, each beside what the output says."""
+    lists = location_lists(sections, size, order)
     entries = [(begin, end, len(places)) for _, found in lists for begin, end, places in found]
-    bounds = [re.match(r" +\(0x([0-9a-f]+), 0x([0-9a-f]+)\): (.*)", line) for line in lines]
-    compared = [([(int(found[1], 16), int(found[2], 16), found[3].count("DW_OP_")) for found in bounds if found], entries)]
     others, _ = asked("readelf", "--debug-dump=loc", path)
-    bounds = [re.match(r" +[0-9a-f]{8} ([0-9a-f]{8,}) ([0-9a-f]{8,}) \((.*)\)", line) for line in others]
-    compared.append(([(int(found[1], 16), int(found[2], 16), found[3].count("DW_OP_")) for found in bounds if found], entries))
+    compared = [(counts_of_dwarfdump(lines), entries), (counts_of_readelf(others), entries)]
     others, _ = asked("eu-readelf", "--debug-dump=loc", path)
-    compared.append((printed_locations(others), lists))
-    others, _ = asked("eu-readelf", "--debug-dump=info", path)
-    if order == "little":
-        compared += [(printed_expressions(others), expressions_of(text)), (printed_references(others), references_of(text))]
-    return compared
+    return compared + [(places_of_eu_readelf(others), [it for it in lists if it[1] or not is_new(sections)])]
 
 
 def compared_frames(told, path):

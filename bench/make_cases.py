@@ -27,12 +27,13 @@ import plain_run
 import range_cases
 import realistic_cases
 import type_name_cases
+import version_cases
 import wrapper_cases
 import wrapper_refusals
 from form_cases import FORMS, REFUSED_FORMS
 from make_modules import custom, functions_module, map_of as map_of_modules, sleb, u32, uleb
 from small_module import ABBREVIATIONS, ENTRIES, FRONT, MAP, ONE_FILE, PREAMBLE, PROGRAM, ROOT, SMALL, SOURCES, function, line_table, map_of, module, sized, unit
-from worked_texts import BIG_TEXT, FOUR_TEXT, OWN_TEXT, SMALL_TEXT, TWO_TEXT
+from worked_texts import BIG_TEXT, FOUR_TEXT, OWN_TEXT, OWN_TEXT_5, SMALL_TEXT, TWO_TEXT
 
 BENCH = os.path.dirname(__file__)
 CRATE = os.path.join(BENCH, "..", "crates", "dwc_cases")
@@ -41,14 +42,14 @@ CRATE = os.path.join(BENCH, "..", "crates", "dwc_cases")
 
 READINGS = {"text": str, "front": check_cases.front_of, "rows": check_cases.rows_of, "code": check_cases.code_of, "places": check_cases.places_of}
 READINGS |= {"contexts": check_cases.contexts_of, "frames": check_cases.frames_of, "texts": check_cases.texts_of, "tree": listed_trees.tree_of, "wrappers": listed_trees.wrappers_of}
-READINGS |= {"last": listed_trees.last_of, "lines": check_cases.last_lines}
+READINGS |= {"last": listed_trees.last_of, "lines": check_cases.last_lines, "tables": check_cases.tables_of, "paths": check_cases.paths_of}
 
 
 class Cases:
     """A file of cases, and what they must print."""
 
     def __init__(self, name):
-        self.name, self.lines, self.wanted, self.outputs = name, [], [], []
+        self.name, self.lines, self.wanted, self.outputs, self.runs = name, [], [], [], {}
 
     def add(self, kind, name, parts, wanted):
         self.lines += [f"{kind} {name}", *parts]
@@ -76,6 +77,7 @@ class Cases:
         parts = [f"word {word}" for word in ["map.json", *paths]]
         self.add("run", name, [*parts, *self.files(files)], f"status 0\n{printed}")
         self.outputs.append((name, map_text, printed))
+        self.runs[name] = (map_text, modules, wanted)
 
     def refused_module(self, name, status, line, *modules, map_text=MAP):
         paths = [f"{i}.wasm" for i in range(len(modules))]
@@ -203,6 +205,8 @@ NO_VALUE = [
     ('"body_len":30', '"body_len":18446744073709551616'),
     ("[5,25]", "[4294967296,25]"),
     ("[5,25]", "[5,4294967295]"),
+    *(('"x86_64"', f'"x86_64","version":{version}') for version in ("3", "null", '"5"', "6", "4.0", "5.0", "0", "-5", "true", "[5]", "4294967300")),
+    ('"x86_64"', '"x86_64","version":5,"version":3'),
 ]
 
 # Pieces with which it still has one; without sections of DWARF a run then prints the module's own unit, unless something is refused.
@@ -221,6 +225,10 @@ ALLOWED = [
     ("[5,25]", "[4294967295,4294967294]", "BadAddressMap 0 0 CodePastBody"),
     ("[[5,25],[8,null],[15,30],[23,null]]", "[]", OWN_TEXT),
     ('"target"', '"unknown":[1.5,{"a":null}],"target"', OWN_TEXT),
+    ('"x86_64"', '"x86_64","version":4', OWN_TEXT),
+    ('"x86_64"', '"x86_64","version":5', OWN_TEXT_5),
+    ('"x86_64"', '"x86_64","version":3,"version":5', OWN_TEXT_5),
+    ('"target"', '"version":5,"target"', OWN_TEXT),
 ]
 
 
@@ -742,6 +750,7 @@ def main():
         line_cases(),
         listing_cases(),
     ]
+    made.append(version_cases.version_cases(Cases("versions.txt"), made))
     if "--check" in sys.argv[1:]:
         check_cases.check([output for cases in made for output in cases.outputs])
     else:

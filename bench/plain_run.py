@@ -11,7 +11,8 @@ from plain_entries import Reader, Refused, Unit, kept_offsets, read_table, read_
 from plain_entries import AT_FRAME_BASE, AT_HIGH_PC, AT_LOW_PC, AT_RANGES, AT_STMT_LIST, DROPPED_NAMES, TAG_COMPILE_UNIT, TAG_SUBPROGRAM
 from plain_expressions import Machine, built, compiled, place_at
 from plain_frames import refuse_frames, write_frames
-from plain_last_unit import begun_functions, last_unit, told_file
+from plain_last_unit import AT_COMP_DIR, begun_functions, last_unit, told_file
+from plain_lists import START_LENGTH_PLACE, START_LENGTH_RANGE, Lists, sized_expression
 from plain_locations import CONTEXT, is_location, locations_of
 from plain_own_units import own_unit
 from plain_spelling import write_units
@@ -100,7 +101,8 @@ def after_row(row):
 class Table:
     version: int
     directories: list = field(default_factory=list)  # from 1 on
-    files: list = field(default_factory=list)  # pairs of the directory and the name, from 1 on
+    files: list = field(default_factory=list)  # pairs of the directory and the name, from 1 on, in version 5 from 0 on
+    own: bytes | None = None  # in version 5 directory 0
     segments: list = field(default_factory=list)  # pairs of a start and rows, with the files counted from 1 on
     steps: list = field(default_factory=list)  # each start, row and end, in order
 
@@ -141,7 +143,7 @@ def names_of_4(reader, table):
 
 def names_of_5(reader, sections, text_base, table):
     directories = entries_of_5(reader, sections, text_base)
-    table.directories = [path for _, path in directories[1:]]
+    table.own, table.directories = (directories[0][1] if directories else None), [path for _, path in directories[1:]]
     table.files = entries_of_5(reader, sections, text_base)
 
 
@@ -336,23 +338,31 @@ class Section:
         return "".join(line + "\n" for line in lines)
 
 
+# What the fields of directories and files are in version 5: a content type and a form each.
+PATH_IN_LINE_STR, DIRECTORY_UDATA = (1, 0x1F), (2, 0x0F)
+
+
 class Writer:
     def __init__(self, target):
         self.order = "big" if target.get("big_endian", False) else "little"
-        self.size = target.get("pointer_bytes", 8)
-        names = (".debug_abbrev", ".debug_info", ".debug_line", ".debug_ranges", ".debug_loc", ".debug_str", ".debug_frame")
+        self.size, self.version = target.get("pointer_bytes", 8), target.get("version", 4)
+        ranges, places = (".debug_rnglists", ".debug_loclists") if self.version == 5 else (".debug_ranges", ".debug_loc")
+        names = (".debug_abbrev", ".debug_info", ".debug_line", ".debug_line_str", ranges, places, ".debug_str", ".debug_frame")
         self.sections = [Section(name) for name in names]
-        self.abbrev, self.info, self.line, self.ranges, self.loc, self.str, self.frame = self.sections
-        self.texts = {}  # where each text stands
+        self.abbrev, self.info, self.line, self.line_str, ranges, places, self.str, self.frame = self.sections
+        self.ranges, self.places = Lists(self, ranges, START_LENGTH_RANGE), Lists(self, places, START_LENGTH_PLACE)
+        self.texts = {}  # where each text stands, by its section and itself
 
     def printed(self):
         return "".join(section.printed() for section in self.sections if section.body)
 
-    def text(self, section, text):
-        if text not in self.texts:
-            self.texts[text] = len(self.str.body)
-            self.str.body += text + b"\0"
-        self.offset(section, self.str, self.texts[text])
+    def text(self, section, text, to=None):
+        """The offset of a text, in `.debug_str` unless another section is given."""
+        to = to or self.str
+        if (to.name, text) not in self.texts:
+            self.texts[to.name, text] = len(to.body)
+            to.body += text + b"\0"
+        self.offset(section, to, self.texts[to.name, text])
 
     def number(self, value, size):
         return value.to_bytes(size, self.order)
@@ -368,21 +378,14 @@ class Writer:
         section.body += self.number(addend, self.size)
 
     def range_list(self, section, ranges):
-        self.offset(section, self.ranges, len(self.ranges.body))
-        for function, start, end in ranges:
-            self.address(self.ranges, function, start)
-            self.address(self.ranges, function, end)
-        self.ranges.body += bytes(2 * self.size)
+        self.ranges.add(section, [(*piece, b"") for piece in ranges])
 
     def location_list(self, section, ranges):
-        self.offset(section, self.loc, len(self.loc.body))
-        for function, start, end, data in ranges:
-            self.address(self.loc, function, start)
-            self.address(self.loc, function, end)
-            if len(data) >= 1 << 16:
-                raise Refused("TooLarge Expression")
-            self.loc.body += self.number(len(data), 2) + data
-        self.loc.body += bytes(2 * self.size)
+        self.places.add(section, [(*piece, sized_expression(self, data)) for *piece, data in ranges])
+
+    def end_unit(self):
+        self.ranges.end_unit()
+        self.places.end_unit()
 
     def sized(self, section, write):
         """What has its length in front of it."""
@@ -391,17 +394,32 @@ class Writer:
         write()
         section.body[at : at + 4] = self.number(len(section.body) - at - 4, 4)
 
-    def line_table(self, table, images):
-        names = b"".join(name + b"\0" for name in table.directories) + b"\0"
-        names += b"".join(name + b"\0" + uleb(directory) + b"\0\0" for directory, name in table.files) + b"\0"
-        parameters = bytes.fromhex("010101fb0e0d000101010100000001000001") + names
+    def line_table(self, own, table, images):
+        """A line table of a unit whose compilation directory is given."""
+        at = len(self.line.body)
+        self.line.body += bytes(4) + self.number(self.version, 2)
+        self.line.body += bytes([self.size, 0]) if self.version == 5 else b""
+        self.sized(self.line, lambda: self.line_header(own, table))
+        for function, rows in images:
+            self.sequence(function, rows)
+        self.line.body[at : at + 4] = self.number(len(self.line.body) - at - 4, 4)
 
-        def write():
-            self.line.body += self.number(4, 2) + self.number(len(parameters), 4) + parameters
-            for function, rows in images:
-                self.sequence(function, rows)
-
-        self.sized(self.line, write)
+    def line_header(self, own, table):
+        """What stands behind the header's length. In version 5 directory 0 is the unit's own, and file 0 is file 1. (DWARF 5, section 6.2.4.)"""
+        body = self.line.body
+        body += bytes.fromhex("010101fb0e0d000101010100000001000001")
+        if self.version < 5:
+            body += b"".join(name + b"\0" for name in table.directories) + b"\0"
+            body += b"".join(name + b"\0" + uleb(directory) + b"\0\0" for directory, name in table.files) + b"\0"
+            return
+        body += bytes([1, *PATH_IN_LINE_STR]) + uleb(1 + len(table.directories))
+        for name in [own, *table.directories]:
+            self.text(self.line, name, self.line_str)
+        files = table.files[:1] + table.files
+        body += bytes([2, *PATH_IN_LINE_STR, *DIRECTORY_UDATA]) + uleb(len(files))
+        for directory, name in files:
+            self.text(self.line, name, self.line_str)
+            body += uleb(directory)
 
     def sequence(self, function, rows):
         body = self.line.body
@@ -425,15 +443,15 @@ class Writer:
         body += bytes([0, 1, 1])
 
 
-def carried_units(sections, machine):
-    """The carried units of a module."""
+def carried_units(sections, machine, version=4):
+    """The carried units of a module, for an output of a version."""
     units = read_units(sections)
     kept = kept_offsets(sections, units, machine.function_at)
     for unit in units:
         entries = [e for e in unit.entries if e.offset in kept]
         if unit.root.tag == TAG_COMPILE_UNIT and entries:
             table = None if unit.line_table is None else read_line_table(sections, unit, unit.line_table)
-            yield Carried(sections, unit, entries, table, machine)
+            yield Carried(sections, unit, entries, table, machine, version)
 
 
 def printed_text(map_bytes, modules):
@@ -444,16 +462,16 @@ def printed_text(map_bytes, modules):
     writer, units, begun, is_big = Writer(target), [], set(), target.get("big_endian", False)
     for (_, sections), (functions, machine) in zip(files, maps):
         units.append((own_unit(machine.module, set_name, machine.memory), None))
-        carried = list(carried_units(sections, machine))
+        carried = list(carried_units(sections, machine, writer.version))
         emitted = {entry.offset for unit in carried for entry in unit.entries}
         for unit in carried:
             units.append((tree_of(unit, emitted, is_big, resolve_name), len(writer.line.body)))
-            write_lines(writer, unit.table, functions)
+            write_lines(writer, own_directory(units[-1][0]), unit.table, functions)
             begun |= begun_functions(unit)
     paths = [module.get("path") for module in told["modules"]]
     tree, name, listed = last_unit(paths, told.get("next_id", 0), [told_file(data) for data in modules], maps, begun)
     units.append((tree, len(writer.line.body)))
-    writer.line_table(Table(4, [], [(0, name)]), [(function, listed_rows(code, function)) for code, function in listed])
+    writer.line_table(own_directory(tree), Table(4, [], [(0, name)]), [(function, listed_rows(code, function)) for code, function in listed])
     cie, frames = target.get("cie"), frames_of(told["modules"])
     refuse_frames(cie, frames)
     write_units(writer, units)
@@ -474,11 +492,17 @@ def frames_of(modules):
     return [(number, f["frame"]) for number, f in enumerate(functions) if f["symbol"] is not None and f.get("frame")]
 
 
-def write_lines(writer, table, functions):
+def own_directory(tree):
+    """The compilation directory that the root of a tree names; the empty text where it names none."""
+    value = tree[0].attributes.get(AT_COMP_DIR)
+    return value[1] if value and value[0] == "text" else b""
+
+
+def write_lines(writer, own, table, functions):
     if table:
         images = [(function_at(functions, start), start, rows) for start, rows in table.segments]
         images = [(f, image_of(start, rows, f)) for f, start, rows in images if f is not None]
-        writer.line_table(table, [(f, rows) for f, rows in images if rows])
+        writer.line_table(own, table, [(f, rows) for f, rows in images if rows])
 
 
 # ---- what is said of each byte

@@ -1,7 +1,8 @@
-"""How the units of an output are spelled. (DWARF 4, section 7.5.)"""
+"""How the units of an output are spelled. (DWARF 4 and 5, section 7.5.)"""
 
 from plain_entries import sleb, uleb
 
+UT_COMPILE = 1
 FIXED = {0x0B: 1, 0x05: 2, 0x06: 4, 0x07: 8}
 
 
@@ -36,7 +37,7 @@ def places_in(writer, tree, start):
     """Where each entry stands, and where the unit ends."""
     shapes = shapes_of(tree)
     codes = {shape: i + 1 for i, shape in enumerate(dict.fromkeys(shapes))}
-    at, places = start + 11, []
+    at, places = start + (12 if writer.version == 5 else 11), []
     for i, (made, shape) in enumerate(zip(tree, shapes)):
         places.append(at)
         at += len(uleb(codes[shape])) + sum(size_of(writer, value) for value in made.attributes.values()) + ends_behind(tree, i)
@@ -59,14 +60,21 @@ def write_units(writer, units):
     for (tree, lines_at), (start, codes, shapes, _, end) in zip(units, laid):
         table_at = len(writer.abbrev.body)
         write_table(writer, codes)
-        writer.info.body += writer.number(end - start - 4, 4) + writer.number(4, 2)
-        writer.offset(writer.info, writer.abbrev, table_at)
-        writer.info.body.append(writer.size)
+        write_header(writer, end - start - 4, table_at)
         for i, (made, shape) in enumerate(zip(tree, shapes)):
             writer.info.body += uleb(codes[shape])
             for value in made.attributes.values():
                 write_value(writer, value, start, lines_at, keys)
             writer.info.body += bytes(ends_behind(tree, i))
+        writer.end_unit()
+
+
+def write_header(writer, length, table_at):
+    """The header of a compile unit. In version 5 its type stands there too, and the size of an address in front of the table. (Section 7.5.1.1.)"""
+    writer.info.body += writer.number(length, 4) + writer.number(writer.version, 2)
+    writer.info.body += bytes([UT_COMPILE, writer.size]) if writer.version == 5 else b""
+    writer.offset(writer.info, writer.abbrev, table_at)
+    writer.info.body += bytes([writer.size]) if writer.version == 4 else b""
 
 
 def write_table(writer, codes):

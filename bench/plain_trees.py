@@ -15,20 +15,23 @@ from plain_wrappers import KINDS, wrapper
 
 @dataclass
 class Carried:
-    """A unit that is carried, with the sections of its module, the entries that are kept, and its line table, if it has one."""
+    """A unit that is carried, with the sections of its module, the entries that are kept, its line table, if it has one, and the version of
+    the output."""
 
     sections: dict
     unit: object
     entries: list
     table: object
     machine: Machine
+    written: int
 
 
-def file_number(unit, table, number):
-    """The number of a file in the output; None where the file is not there."""
+def file_number(unit, table, written, number):
+    """The number of a file in an output of a version; None where the file is not there. Up to version 4 the number 0 is no file, in version 5
+    it is one. (Section 2.14.)"""
     version = table.version if table else unit.version
     if version < 5 and number == 0:
-        return 0
+        return 0 if written == 4 else None
     files = table.files if table else []
     inside = number < len(files) if version == 5 else number <= len(files)
     return number + (version == 5) if inside else None
@@ -47,7 +50,7 @@ def value_made(carried, entry, given, emitted, name, value):
     if name in (AT_LOW_PC, AT_HIGH_PC, AT_RANGES) or kind in ("dropped", "line"):
         return None
     if kind == "constant" and name in (AT_DECL_FILE, AT_CALL_FILE):
-        number = file_number(unit, table, value[2])
+        number = file_number(unit, table, carried.written, value[2])
         return None if number is None else constant(UDATA, number)
     if kind == "constant":
         return constant(0x0D if value[1] == 0x21 else value[1], value[2])

@@ -312,3 +312,141 @@ reloc 191 4 section .debug_str 176
 {SMALL_LINES}{NOWHERE}section .debug_str 187
 {OWN_TEXTS}{CONTEXT_TEXT}{WRAPPER_TEXTS}
 """
+
+# ---- in version 5
+
+# The header of a unit has one byte more, so that what stands behind it does too, and references within a unit.
+OWN_ENTRIES_5 = "4a000000" "0500" "01" "08" "00000000" "0100000000" "1c000000" "1d00" "0225000000" "0701" "0328000000" "17000000" "042c000000"
+OWN_ENTRIES_5 += "053e000000" "46000000" "063d000000" "01" "0000" "034a000000" "27000000" "075d000000" "0407" "00"
+OWN_RELOCATIONS_5 = """reloc 8 4 section .debug_abbrev 0
+reloc 13 4 section .debug_str 0
+reloc 17 4 section .debug_str 28
+reloc 24 4 section .debug_str 37
+reloc 31 4 section .debug_str 40
+reloc 40 4 section .debug_str 44
+reloc 45 4 section .debug_str 62
+reloc 49 4 section .debug_str 70
+reloc 62 4 section .debug_str 74
+reloc 71 4 section .debug_str 93
+"""
+OWN_TEXT_5 = f"""section .debug_abbrev 68
+{OWN_ABBREVIATIONS}
+section .debug_info 78
+{OWN_ENTRIES_5}
+{OWN_RELOCATIONS_5}section .debug_str 108
+{OWN_TEXTS}
+"""
+
+# A line table: the lengths around version and sizes, six parameters with the counts of operands, one directory of a path, and twice one file of a path
+# and a directory.
+FRONT_OF_TABLE_5 = "0500" "08" "00" "2a000000" "010101fb0e0d" "000101010100000001000001" "01011f" "01"
+SMALL_TABLE_5 = "4a000000" + FRONT_OF_TABLE_5 + "00000000" "02011f020f" "02" "0100000000" "0100000000"
+SMALL_TABLE_5 += "000902" "0000000000000000" "030101" "0301020f01" "020f" "000101"
+TABLE_RELOCATIONS_5 = """reloc 34 4 section .debug_line_str 0
+reloc 44 4 section .debug_line_str 1
+reloc 49 4 section .debug_line_str 1
+reloc 57 8 func 0 0
+"""
+SMALL_LINES_5 = f"""section .debug_line 78
+{SMALL_TABLE_5}
+{TABLE_RELOCATIONS_5}section .debug_line_str 5
+{b"".hex()}00{b"a.c".hex()}00
+"""
+
+# Lists of a unit: their length, the version, the size of an address, no segments, no offsets; and then one that is empty.
+NOWHERE_5 = "09000000" "0500" "08" "00" "00000000" "00"
+
+# The small module with the path `/m/g.wasm`, whole: its own unit, the carried one, and one for functions without debugging information, of which it has none.
+LAST_ABBREVIATIONS = "011101250e1305030e10171b0e55170000" "022400030e0b0b3e0b0000" "00"
+G_ENTRIES_5 = "26000000" "0500" "01" "08" "44000000" "0100000000" "020000000000000000" "1e" "036c000000" "3d000000" "0c000000" "0000"
+G_ENTRIES_5 += "3c000000" "0500" "01" "08" "60000000" "011c000000" "1d00" "74000000" "4e000000" "7b000000" "0c000000"
+G_ENTRIES_5 += "027e000000" "0405" "0282000000" "0805" "0286000000" "0404" "028a000000" "0804" "00"
+G_TEXT_5 = f"""section .debug_abbrev 125
+{OWN_ABBREVIATIONS}01110110170000022e011101120f0000033400030e49100217000000{LAST_ABBREVIATIONS}
+section .debug_info 184
+{OWN_ENTRIES_5}{G_ENTRIES_5}
+{OWN_RELOCATIONS_5}reloc 86 4 section .debug_abbrev 68
+reloc 91 4 section .debug_line 0
+reloc 96 8 func 0 0
+reloc 106 4 section .debug_str 108
+reloc 110 4 section .debug_info 61
+reloc 114 4 section .debug_loclists 12
+reloc 128 4 section .debug_abbrev 96
+reloc 133 4 section .debug_str 28
+reloc 139 4 section .debug_str 116
+reloc 143 4 section .debug_line 78
+reloc 147 4 section .debug_str 123
+reloc 151 4 section .debug_rnglists 12
+reloc 156 4 section .debug_str 126
+reloc 163 4 section .debug_str 130
+reloc 170 4 section .debug_str 134
+reloc 177 4 section .debug_str 138
+section .debug_line 132
+{SMALL_TABLE_5}32000000{FRONT_OF_TABLE_5}0500000002011f020f0208000000000800000000
+{TABLE_RELOCATIONS_5}reloc 112 4 section .debug_line_str 5
+reloc 122 4 section .debug_line_str 8
+reloc 127 4 section .debug_line_str 8
+section .debug_line_str 15
+00612e63002f6d00672e7761736d00
+section .debug_rnglists 13
+{NOWHERE_5}
+section .debug_loclists 13
+{NOWHERE_5}
+section .debug_str 142
+{OWN_TEXTS}{CONTEXT_TEXT}{b"g.wasm".hex()}00{b"/m".hex()}00{b"i32".hex()}00{b"i64".hex()}00{b"f32".hex()}00{b"f64".hex()}00
+"""
+
+# The block of two pieces of code: an entry for each, of a start and a length.
+LIST_TEXT_5 = f"""section .debug_abbrev 103
+{OWN_ABBREVIATIONS}01110110170000022e011101120f0000033400030e491002170000040b005517000000
+section .debug_info 125
+{OWN_ENTRIES_5}2b000000050001084400000001000000000200000000000000001e036c0000003d0000000c000000040c0000000000
+{OWN_RELOCATIONS_5}reloc 86 4 section .debug_abbrev 68
+reloc 91 4 section .debug_line 0
+reloc 96 8 func 0 0
+reloc 106 4 section .debug_str 108
+reloc 110 4 section .debug_info 61
+reloc 114 4 section .debug_loclists 12
+reloc 119 4 section .debug_rnglists 12
+{SMALL_LINES_5}section .debug_rnglists 33
+1d0000000500080000000000{"07" "0500000000000000" "0a"}{"07" "0f00000000000000" "0f"}00
+reloc 13 8 func 0 5
+reloc 23 8 func 0 15
+section .debug_loclists 13
+{NOWHERE_5}
+section .debug_str 116
+{OWN_TEXTS}{CONTEXT_TEXT}
+"""
+
+# The variable over a part of its scope, and the context: a start and a length of each, and the length of an expression in front of it.
+MEMORY_ENTRIES_5 = "58000000" "0500" "01" "08" "00000000" "0100000000" "1c000000" "1d00" "0225000000" "0701" "0328000000" "17000000" "042c000000" "58000000"
+MEMORY_ENTRIES_5 += "053e000000" "1e000000" "50" "0645000000" "4d000000" "074b000000" "01" "0000" "0351000000" "27000000" "0864000000" "0407" "00"
+PART_TEXT_5 = f"""section .debug_abbrev 118
+{MEMORY_ABBREVIATIONS}01110110170000022e011101120f40180000033400030e4910021700000434000217000000
+section .debug_info 141
+{MEMORY_ENTRIES_5}2d000000050001085100000001000000000200000000000000001e019c03730000004b0000000c00000004190000000000
+reloc 8 4 section .debug_abbrev 0
+reloc 13 4 section .debug_str 0
+reloc 17 4 section .debug_str 28
+reloc 24 4 section .debug_str 37
+reloc 31 4 section .debug_str 40
+reloc 40 4 section .debug_str 44
+reloc 49 4 section .debug_str 62
+reloc 59 4 section .debug_str 69
+reloc 63 4 section .debug_str 77
+reloc 76 4 section .debug_str 81
+reloc 85 4 section .debug_str 100
+reloc 100 4 section .debug_abbrev 81
+reloc 105 4 section .debug_line 0
+reloc 110 8 func 0 0
+reloc 122 4 section .debug_str 115
+reloc 126 4 section .debug_info 75
+reloc 130 4 section .debug_loclists 12
+reloc 135 4 section .debug_loclists 25
+{SMALL_LINES_5}section .debug_loclists 53
+310000000500080000000000{"08" "0000000000000000" "1e" "01" "5e" "00"}{"08" "0000000000000000" "14" "10" "7c0023127ed00006160cffffffff1a22" "00"}
+reloc 13 8 func 0 0
+reloc 26 8 func 0 0
+section .debug_str 123
+{MEMORY_TEXTS}{CONTEXT_TEXT}
+"""
