@@ -18,7 +18,7 @@ def full_map() -> dict:
     """The small map with every field."""
     told = small_map()
     ops = [["cfa", 7, 8], ["offset", 16, -8]]
-    told["target"] |= {"registers": [[0, 0], [1, 2]], "big_endian": False, "pointer_bytes": 8}
+    told["target"] |= {"registers": [[0, 0], [1, 2]], "big_endian": False, "pointer_bytes": 8, "version": 5}
     told["target"]["cie"] = {"code_factor": 1, "data_factor": -8, "return_register": 16, "ops": ops}
     told["next_id"] = 3
     told["modules"][0]["memory"] = {"defined": 8}
