@@ -30,6 +30,8 @@ pub const DW_TAG_inheritance: u16 = 0x1c;
 
 pub const DW_TAG_inlined_subroutine: u16 = 0x1d;
 
+pub const DW_TAG_ptr_to_member_type: u16 = 0x1f;
+
 pub const DW_TAG_subrange_type: u16 = 0x21;
 
 pub const DW_TAG_with_stmt: u16 = 0x22;
@@ -58,6 +60,8 @@ pub const DW_TAG_variable: u16 = 0x34;
 
 pub const DW_TAG_namespace: u16 = 0x39;
 
+pub const DW_TAG_rvalue_reference_type: u16 = 0x42;
+
 pub const DW_TAG_call_site: u16 = 0x48;
 
 pub const DW_TAG_call_site_parameter: u16 = 0x49;
@@ -84,6 +88,8 @@ pub const DW_AT_language: u16 = 0x13;
 pub const DW_AT_string_length: u16 = 0x19;
 
 pub const DW_AT_comp_dir: u16 = 0x1b;
+
+pub const DW_AT_containing_type: u16 = 0x1d;
 
 pub const DW_AT_lower_bound: u16 = 0x22;
 

@@ -22,7 +22,7 @@ pub use ledger::{Counting, Ledger, Silent, Steps};
 pub use output::{DwarfSection, DwarfSectionReloc, DwarfSectionRelocTarget};
 pub use records::{
     Address, DefinedFuncIndex, Encoding, Endian, FilePos, FuncKey, LineRow, MapFault, ModulePC,
-    StaticModuleIndex, SymbolId, Tunables,
+    OutputFor, StaticModuleIndex, SymbolId, Tunables,
 };
 pub use relocations::Relocations;
 pub use section_name::SectionName;

@@ -10,6 +10,15 @@ pub enum Endian {
     Big,
 }
 
+/// Whom an output is for.
+#[derive(Clone, Copy)]
+pub enum OutputFor {
+    /// By the rules that stand by default.
+    Default,
+    /// As a debugger wants it: scopes are exact at each byte, lists have a base, and what debuggers cannot bear goes.
+    Debugger,
+}
+
 /// An address: a number, or a place in a function, which is named by its number among all functions.
 #[derive(Clone, Copy, Debug, PartialEq, Eq)]
 pub enum Address {
@@ -112,6 +121,8 @@ pub struct Tunables {
     pub internal_traps: bool,
     /// The version of DWARF that is written: 4 or 5.
     pub dwarf_version: u16,
+    /// Whom the DWARF is written for.
+    pub output_for: OutputFor,
 }
 
 /// A place in a wasm file, or no place. A contract sees its offset, if it has one.
