@@ -1,8 +1,11 @@
 -- The trees that are made of an input lead to its contexts, where translations keep scopes and nothing is refused.
-use Rattle.std.proofs.Common.{◌≡◌, ℕ, suc, ◌≤◌, List, [], ◌∷◌, ◌++◌, map, Option, Some, None, Bool, true, Result, Ok, Err, refl, sym, ap, subst, ◌∙◌, ◌==◌, arith}
+use Rattle.std.proofs.Common.{false, ◌≡◌, ℕ, suc, ◌≤◌, List, [], ◌∷◌, ◌++◌, map, Option, Some, None, Bool, true, Result, Ok, Err, refl, sym, ap, subst, ◌∙◌, ◌==◌, arith}
 use Rattle.std.specs.Prelude.{◌||◌, option_map, option_to_list, All, Contains, IfSome, filter_map, codes}
 use Rattle.std.specs.List.{cons_option}
 use Rattle.std.proofs.lemmas.Bool.{false≢true, eq-eqb}
+use Rattle.dwc_rules.specs.Wrappers.{is_wrapped, is_wrapped_too}
+use Rattle.dwc_base.specs.declared.records.OutputFor.{OutputFor}
+use Rattle.dwc_base.specs.declared.records.OutputFor.TheVariants.{Default, Debugger}
 use Rattle.dwc_base.specs.declared.constants.TheConstants.{DW_AT_location, DW_AT_name, DW_AT_type, DW_TAG_pointer_type, DW_TAG_reference_type, DW_TAG_subprogram, DW_TAG_variable}
 use Rattle.dwc_dwarf.specs.Entries.{Entry}
 use Rattle.dwc_native.specs.Functions.{Function}
@@ -162,7 +165,7 @@ module _ (big_endian : Bool) (m : Module) (keep : TranslationsKeepScopes m.funct
       go (d ∷ ds) h rest says = (λ e among made. h.0 e.offset made e among refl (map (settled_entry places) (ds ++ rest)), go ds h.1 rest says)
 
   -- both parts of a wrapper, which is no subprogram
-  wrapper-leads : (p : Placed) → IsIn p kept_here → is_wrapped p ≡ true → Leads (wrapper (wrappers_of (expressions_of m u)) p) × Leads (wrapper_types (wrappers_of (expressions_of m u)) p)
+  wrapper-leads : (p : Placed) → IsIn p kept_here → is_wrapped m.told.output p ≡ true → Leads (wrapper (wrappers_of (expressions_of m u)) p) × Leads (wrapper_types (wrappers_of (expressions_of m u)) p)
   wrapper-leads p i wrapped =
       let parts = wrapper-made SaysAnyway (wrappers_of (expressions_of m u)) p (λ d e among same behind tag. no-subprogram e (entry-is p i e among (sym same)) tag) in (
         group-leads (wrapper (wrappers_of (expressions_of m u)) p) (omega arith, (omega arith, (omega arith, (omega arith, (omega arith, (omega arith, (omega arith, (omega arith, tt)))))))) parts.0,
@@ -171,8 +174,12 @@ module _ (big_endian : Bool) (m : Module) (keep : TranslationsKeepScopes m.funct
     where
       no-subprogram : (e : Entry) → p.entry ≡ e → {A : Type 0} → e.tag ≡ DW_TAG_subprogram → A
       no-subprogram e same tag =
-          let here : ((e.tag == DW_TAG_pointer_type) || (e.tag == DW_TAG_reference_type)) ≡ true = subst (λ (x : Entry). ((x.tag == DW_TAG_pointer_type) || (x.tag == DW_TAG_reference_type)) ≡ true) same wrapped in
-          absurd (false≢true (subst (λ n. ((n == DW_TAG_pointer_type) || (n == DW_TAG_reference_type)) ≡ true) tag here))
+          let here : is_wrapped m.told.output (record { unit = p.unit; entry = e }) ≡ true = subst (λ (x : Entry). is_wrapped m.told.output (record { unit = p.unit; entry = x }) ≡ true) same wrapped in
+          absurd (false≢true (sym (none m.told.output) ∙ subst (λ n. ((n == DW_TAG_pointer_type) || (n == DW_TAG_reference_type) || is_wrapped_too m.told.output n) ≡ true) tag here))
+        where
+          none : (o : OutputFor) → is_wrapped_too o DW_TAG_subprogram ≡ false
+          none Default = refl
+          none Debugger = refl
 
   unit-leads : AllSay (drafts_of big_endian (record { module_of = m; unit = u }))
   unit-leads =

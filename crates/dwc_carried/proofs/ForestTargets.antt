@@ -1,6 +1,9 @@
 -- Every reference of the trees of an input goes to an entry that is there.
-use Rattle.std.proofs.Common.{◌≡◌, ℕ, suc, pos, List, [], ◌∷◌, ◌++◌, map, Option, Some, None, Bool, true, false, Result, Ok, Err, refl, ◌==◌}
-use Rattle.std.specs.Prelude.{◌&&◌, if◌then◌else◌, option_map, option_to_list, is_some, filter_map}
+use Rattle.std.proofs.Common.{inr, inl, ◌≡◌, ℕ, suc, pos, List, [], ◌∷◌, ◌++◌, map, Option, Some, None, Bool, true, false, Result, Ok, Err, refl, ◌==◌}
+use Rattle.std.specs.Prelude.{◌⊎◌, ◌&&◌, if◌then◌else◌, option_map, option_to_list, is_some, filter_map}
+use Rattle.dwc_rules.proofs.ListBaseLaws.{base-or-none}
+use Rattle.dwc_rules.specs.RangeAttributes.{with_base}
+use Rattle.dwc_base.specs.declared.records.OutputFor.{OutputFor}
 use Rattle.dwc_base.specs.declared.constants.TheConstants.{DW_AT_artificial, DW_AT_endianity, DW_AT_low_pc, DW_AT_ranges, DW_AT_stmt_list, DW_FORM_data1, DW_FORM_udata, DW_END_little, DW_TAG_base_type, DW_TAG_compile_unit}
 use Rattle.dwc_base.specs.declared.records.Address.{Address}
 use Rattle.dwc_base.specs.declared.records.Address.TheVariants.{Constant, Symbol}
@@ -38,7 +41,7 @@ use Rattle.dwc_dwarf.specs.Texts.{text_named}
 use Rattle.dwc_rules.specs.Targets.{target_of}
 use Rattle.dwc_dwarf.specs.TreeLaws.{HasAllTargets, goes_somewhere}
 use Rattle.dwc_rules.specs.KeptModules.{carried_in, kept_in}
-use Rattle.dwc_rules.specs.Clones.{UnitSource, is_dropped_name, is_bound_name, is_file_name, constant_form, file_number, constant_becomes, text_drafted, text_becomes, value_becomes, nothing_unless, bound_becomes, table_becomes, attribute_becomes, attributes_become, if_made, endianity, attributes_made, number_written}
+use Rattle.dwc_rules.specs.Clones.{kept_unless, UnitSource, is_dropped_name, is_bound_name, is_file_name, constant_form, file_number, constant_becomes, text_drafted, text_becomes, value_becomes, nothing_unless, bound_becomes, table_becomes, attribute_becomes, attributes_become, if_made, endianity, attributes_made, number_written}
 use Rattle.dwc_rules.specs.CarriedDrafts.{source_of, draft_of, draft_told, entry_made, unit_drafts, carried_drafts}
 use Rattle.dwc_rules.specs.LocationAttributes as LocationAttributes
 use Rattle.dwc_rules.specs.LocationAttributes.{LocationRefusal, ListedExpression, value_of_expression, value_of_locations, read_expression, read_locations}
@@ -129,6 +132,12 @@ module _ (Has : Goal → Type 0) (plain : (offset : ℕ) → Has (made_of offset
   located-made name (Ok (Some _)) tell (is_expression bytes) = value-made name (done (expression bytes)) refl
   located-made name (Ok (Some _)) tell (is_list ls) = value-made name (done (locations ls)) refl
 
+  -- what goes once it is read becomes nothing
+  kept-made : (name : ℕ) (goes : Bool) (r : Result (Option DraftValue) Refusal) → MakesNoPlace name r → MakesNoPlace name (kept_unless goes r)
+  kept-made name false r h = h
+  kept-made name true (Err refusal) h = refused-made name refusal
+  kept-made name true (Ok v) h = nothing-made name
+
   -- what is only read becomes nothing
   read-made : (name : ℕ) (r : Result (Prim.Unit {0}) LocationRefusal) (tell : LocationRefusal → Refusal) → MakesNoPlace name (told_as tell (r >>= λ read. Ok None))
   read-made name (Err refusal) tell = refused-made name (tell refusal)
@@ -136,7 +145,7 @@ module _ (Has : Goal → Type 0) (plain : (offset : ℕ) → Has (made_of offset
 
   expression-made : (c : ExpressionSource) (e : Placed) (before : List (ℕ × Value)) (name : ℕ) (bytes : List ℕ) → MakesNoPlace name (told_as (of_location c.told.place) (expression_becomes c e before name bytes))
   unfolding expression_becomes
-  expression-made c e before name bytes = go (is_wrapped e)
+  expression-made c e before name bytes = go (is_wrapped c.told.output e)
     where
       go : (wrapped : Bool) → MakesNoPlace name (told_as (of_location c.told.place) (elim wrapped [
         | true ↦ (read_expression name (in_force_at c e) (given_expression c e before bytes) >>= λ read. Ok None)
@@ -146,7 +155,7 @@ module _ (Has : Goal → Type 0) (plain : (offset : ℕ) → Has (made_of offset
       go false = located-made name (value_of_expression name (in_force_at c e) (given_expression c e before bytes)) (of_location c.told.place) (expression-located name (in_force_at c e) (given_expression c e before bytes))
 
   listed-made : (c : ExpressionSource) (e : Placed) (name : ℕ) (xs : List ListedExpression) → MakesNoPlace name (told_as (of_location c.told.place) (listed_become c e xs))
-  listed-made c e name xs = go (is_wrapped e)
+  listed-made c e name xs = go (is_wrapped c.told.output e)
     where
       go : (wrapped : Bool) → MakesNoPlace name (told_as (of_location c.told.place) (elim wrapped [
         | true ↦ (read_locations (in_force_at c e) xs >>= λ read. Ok None)
@@ -229,13 +238,13 @@ module _ (Has : Goal → Type 0) (plain : (offset : ℕ) → Has (made_of offset
           | true ↦ Ok None
           | false ↦ elim lines [
             | true ↦ Ok (table_becomes s e)
-            | false ↦ elim bound [ true ↦ bound_becomes (rules_of_source c) s e before a | false ↦ value_becomes (rules_of_source c) s e before a.0 a.1 ]
+            | false ↦ elim bound [ true ↦ bound_becomes (rules_of_source c) s e before a | false ↦ kept_unless ((rules_of_source c).goes e a.0) (value_becomes (rules_of_source c) s e before a.0 a.1) ]
           ]
         ])
         go true lines bound = nothing-made a.0
         go false true bound = table ((e.entry.depth == 0) && is_some s.table)
         go false false true = bound-becomes before a
-        go false false false = value-becomes before a.0 a.1
+        go false false false = kept-made a.0 ((rules_of_source c).goes e a.0) (value_becomes (rules_of_source c) s e before a.0 a.1) (value-becomes before a.0 a.1)
 
     attributes-become : (before others : List (ℕ × Value)) → Each (λ a. (y : ℕ × DraftValue) → if_made a.0 a.1 ≡ Some y → SaysNoPlace Has y) (attributes_become (rules_of_source c) s e before others)
     unfolding attributes_become
@@ -243,7 +252,15 @@ module _ (Has : Goal → Type 0) (plain : (offset : ℕ) → Has (made_of offset
     attributes-become before (a ∷ others) = (attribute-becomes before a, attributes-become (before ++ (a ∷ [])) others)
 
     bounds-no-place : Each (SaysNoPlace Has) ((rules_of_source c).bounds e)
-    bounds-no-place = each_mapped (λ a. (a.0, done a.1)) IsNoReference (SaysNoPlace Has) (λ a is. is) (range_attributes (lists_of c) c.functions e.entry) (attributes-name-none c.functions (lists_of c) e.entry)
+    bounds-no-place =
+        let front = range_attributes (lists_of c) c.functions e.entry in
+        let based = with_base c.told.output (e.entry.tag == DW_TAG_compile_unit) front in
+        each_mapped (λ a. (a.0, done a.1)) IsNoReference (SaysNoPlace Has) (λ a is. is) based
+        (go (base-or-none c.told.output (e.entry.tag == DW_TAG_compile_unit) front) (attributes-name-none c.functions (lists_of c) e.entry))
+      where
+        go : {as' bs : List (ℕ × TreeValue)} → (bs ≡ as') ⊎ (bs ≡ (DW_AT_low_pc, address_of_tree (Constant 0)) ∷ as') → Each IsNoReference as' → Each IsNoReference bs
+        go (inl same) h = rw same h
+        go (inr same) h = rw same (refl, h)
 
     endianity-no-place : (big_endian : Bool) → Each (SaysNoPlace Has) (endianity big_endian e)
     endianity-no-place big_endian = go (big_endian && (e.entry.tag == DW_TAG_base_type))
@@ -315,7 +332,7 @@ module _ (Has : Goal → Type 0) (c : ExpressionSource) (s : UnitSource) (big_en
     types-no-place plain = ((made itself, tt), (target-no-place plain, (target-no-place plain, tt)))
 
 -- the entries that are made of a unit's kept ones say no place, and their references have the property
-pub unit-no-place : (Has : Goal → Type 0) (m : Module) (u : Unit) (s : UnitSource) (big_endian : Bool) (es : List Placed) → GoalsHave Has m.told.memory es → UnitSaysNoPlace Has (unit_drafts (expressions_of m u) s big_endian es)
+pub unit-no-place : (Has : Goal → Type 0) (m : Module) (u : Unit) (s : UnitSource) (big_endian : Bool) (es : List Placed) → GoalsHave Has m.told.output m.told.memory es → UnitSaysNoPlace Has (unit_drafts (expressions_of m u) s big_endian es)
 unit-no-place Has m u s big_endian es have =
     let c = expressions_of m u in
     each-made (EntrySaysNoPlace Has) (wrappers_of c) (entry_made c s big_endian) es

@@ -5,6 +5,10 @@ use Rattle.std.specs.Option.{unwrap_or}
 use Rattle.std.specs.List.{cons_option}
 use Rattle.std.proofs.lemmas.Bool.{eqb-true}
 use Rattle.std.proofs.lemmas.List.Elements.{All-head, All-tail, All-nil, All-cons, filter_map-append}
+use Rattle.dwc_base.specs.declared.records.OutputFor.{OutputFor}
+use Rattle.dwc_rules.proofs.ListBaseLaws.{BaseOrNone, base-or-none}
+use Rattle.dwc_rules.specs.EntryRules.{is_gone}
+use Rattle.dwc_rules.specs.Clones.{kept_unless}
 use Rattle.dwc_base.specs.declared.constants.TheConstants.{DW_AT_frame_base, DW_AT_ranges, DW_TAG_compile_unit}
 use Rattle.dwc_base.specs.declared.records.Address.TheVariants.{Symbol}
 use Rattle.dwc_dwarf.specs.Entries.{Entry}
@@ -15,7 +19,7 @@ use Rattle.dwc_rules.specs.RangeRules.{told_as}
 use Rattle.dwc_rules.specs.Wrappers.{is_wrapped}
 use Rattle.dwc_dwarf.specs.Lists.{ListRefusal}
 use Rattle.dwc_dwarf.specs.RawLists.{ListSource}
-use Rattle.dwc_rules.specs.RangeAttributes.{Extent, begun_function, bounds, extent, intervals, length_of, nowhere, position, range_attributes, said_extent, said_intervals}
+use Rattle.dwc_rules.specs.RangeAttributes.{with_base, Extent, begun_function, bounds, extent, intervals, length_of, nowhere, position, range_attributes, said_extent, said_intervals}
 use Rattle.dwc_native.specs.ScopesKept.{native_of_intervals}
 use Rattle.dwc_rules.specs.Refusals.{Refusal, of_place as of_fault, unit_refusal}
 use Rattle.dwc_base.specs.Listing.{first_of}
@@ -180,15 +184,15 @@ becomes-said : (fs : List Function) (frame : Option Frame) (given : LocationUse)
 becomes-said fs frame given r v is says = record { value = subst IsValue (sym is) (drafted-value v); says = subst (ValueSaysWhere fs frame given) (sym (ap value_made is ∙ drafted-made v)) says }
 
 -- of an entry that is not wrapped an expression, or the intervals of a list, become what is built
-expression-plain : (c : ExpressionSource) (e : Placed) (before : List (ℕ × Value)) (name : ℕ) (bytes : List ℕ) → is_wrapped e ≡ false
+expression-plain : (c : ExpressionSource) (e : Placed) (before : List (ℕ × Value)) (name : ℕ) (bytes : List ℕ) → is_wrapped c.told.output e ≡ false
     → expression_becomes c e before name bytes ≡ (value_of_expression name (in_force_at c e) (given_expression c e before bytes) >>= λ v. Ok (drafted v))
 unfolding expression_becomes
 expression-plain c e before name bytes plain = rw (plain, expression_becomes) refl
 
-listed-plain : (c : ExpressionSource) (e : Placed) (xs : List ListedExpression) → is_wrapped e ≡ false → listed_become c e xs ≡ (value_of_locations (in_force_at c e) xs >>= λ value. Ok (drafted value))
+listed-plain : (c : ExpressionSource) (e : Placed) (xs : List ListedExpression) → is_wrapped c.told.output e ≡ false → listed_become c e xs ≡ (value_of_locations (in_force_at c e) xs >>= λ value. Ok (drafted value))
 listed-plain c e xs plain = rw (plain, listed_become) refl
 
-module _ (c : ExpressionSource) (keep : TranslationsKeepScopes c.functions) (numbered : AreNumbered c.functions) (s : UnitSource) (e : Placed) (plain_entry : is_wrapped e ≡ false) (before : List (ℕ × Value)) where
+module _ (c : ExpressionSource) (keep : TranslationsKeepScopes c.functions) (numbered : AreNumbered c.functions) (s : UnitSource) (e : Placed) (plain_entry : is_wrapped c.told.output e ≡ false) (before : List (ℕ × Value)) where
   abbrev becomes : ℕ → Value → Result (Option DraftValue) Refusal
   becomes name v = code_value_becomes c e before name v
 
@@ -279,11 +283,11 @@ module _ (c : ExpressionSource) (keep : TranslationsKeepScopes c.functions) (num
   value-becomes name (text_reference form n) given named used accepted = absurd (cc)
   value-becomes name (unit_reference n) given named used accepted = absurd (cc)
 
-  attribute-becomes : (a : ℕ × Value) (given : LocationUse) → is_location_name a.0 ≡ true → use_of c e a ≡ Some given → if_refused (attribute_becomes (rules_of_source c) s e before a) ≡ None → Said given (attribute_becomes (rules_of_source c) s e before a)
+  attribute-becomes : (a : ℕ × Value) (given : LocationUse) → is_gone c.told.output e.entry a.0 ≡ false → is_location_name a.0 ≡ true → use_of c e a ≡ Some given → if_refused (attribute_becomes (rules_of_source c) s e before a) ≡ None → Said given (attribute_becomes (rules_of_source c) s e before a)
   unfolding attribute_becomes
-  attribute-becomes a given named used accepted =
+  attribute-becomes a given stays named used accepted =
       let plain = location-plain a.0 named in
-      let same : attribute_becomes (rules_of_source c) s e before a ≡ value_becomes (rules_of_source c) s e before a.0 a.1 = rw (plain.stays, plain.lines, plain.bound, attribute_becomes) refl in
+      let same : attribute_becomes (rules_of_source c) s e before a ≡ value_becomes (rules_of_source c) s e before a.0 a.1 = rw (plain.stays, plain.lines, plain.bound, attribute_becomes) (ap (λ b. kept_unless b (value_becomes (rules_of_source c) s e before a.0 a.1)) stays) in
       subst (Said given) (sym same) (value-becomes a.0 a.1 given named used (ap if_refused (sym same) ∙ accepted))
 
 -- ---- one entry
@@ -308,6 +312,14 @@ bounds-others lists fs e name plain = go (begun_function lists fs e) (extent lis
     go None (position a) = (plain.low, tt)
     go None (intervals []) = tt
     go None (intervals (i ∷ is)) = said-others e.tag (native_of_intervals fs (i ∷ is))
+
+-- nor has a base in front of them
+based-others : (output : OutputFor) (is_root : Bool) (as' : List (ℕ × TreeValue)) (name : ℕ) → IsPlain name → AreOthers name (map (λ (a : ℕ × TreeValue). (a.0, done a.1)) as') → AreOthers name (map (λ (a : ℕ × TreeValue). (a.0, done a.1)) (with_base output is_root as'))
+based-others output is_root as' name plain h = go (base-or-none output is_root as')
+  where
+    go : {bs : List (ℕ × TreeValue)} → BaseOrNone bs as' → AreOthers name (map (λ (a : ℕ × TreeValue). (a.0, done a.1)) bs)
+    go (inl same) = rw same h
+    go (inr same) = rw same (plain.low, h)
 
 -- what is said of a name says where, where what the last attribute of it became does
 name-says : (fs : List Function) (frame : Option Frame) (given : LocationUse) (v : Option TreeValue) (repeated : Bool) (told : Option TreeValue) → SaysLast v repeated told → ValueSaysWhere fs frame given v → NameSaysWhere fs frame given repeated told
@@ -334,7 +346,7 @@ one-accepted rules s e before after a are none =
 -- The entry that is made of a kept one carries its locations, whatever changes for object pointers.
 entry-carries : (c : ExpressionSource) → TranslationsKeepScopes c.functions → AreNumbered c.functions → (s : UnitSource) (big_endian : Bool) (places : Goal → Option (ℕ × ℕ)) (p : Placed) → entry_refusals (rules_of_source c) s p ≡ []
     → CarriesLocations c p (settled_entry places (draft_told c s big_endian p))
-entry-carries c keep numbered s big_endian places p none = λ before after a plain_entry are named last. go before after a plain_entry are named last (use_of c p a) refl
+entry-carries c keep numbered s big_endian places p none = λ before after a plain_entry stays are named last. go before after a plain_entry stays are named last (use_of c p a) refl
   where
     out : TreeEntry
     out = settled_entry places (draft_told c s big_endian p)
@@ -342,16 +354,16 @@ entry-carries c keep numbered s big_endian places p none = λ before after a pla
     made : TreeEntry
     made = settled_entry places (draft_of (rules_of_source c) s big_endian p)
 
-    go : (before after : List (ℕ × Value)) (a : ℕ × Value) → is_wrapped p ≡ false → p.entry.attributes ≡ before ++ a ∷ after → is_location_name a.0 ≡ true → has_name a.0 after ≡ false → (o : Option LocationUse) → use_of c p a ≡ o
+    go : (before after : List (ℕ × Value)) (a : ℕ × Value) → is_wrapped c.told.output p ≡ false → is_gone c.told.output p.entry a.0 ≡ false → p.entry.attributes ≡ before ++ a ∷ after → is_location_name a.0 ≡ true → has_name a.0 after ≡ false → (o : Option LocationUse) → use_of c p a ≡ o
         → IfSome o (λ given. NameSaysWhere c.functions (in_force_at c p).surroundings.frame given (has_name a.0 before) (value_of_entry a.0 (settled_entry places (draft_told c s big_endian p))))
-    go before after a plain_entry are named last None used = tt
-    go before after a plain_entry are named last (Some given) used =
+    go before after a plain_entry stays are named last None used = tt
+    go before after a plain_entry stays are named last (Some given) used =
         let plain = location-plain a.0 named in
-        let said = attribute-becomes c keep numbered s p plain_entry before a given named used (one-accepted (rules_of_source c) s p before after a are none) in
+        let said = attribute-becomes c keep numbered s p plain_entry before a given stays named used (one-accepted (rules_of_source c) s p before after a are none) in
         let same : value_of_entry a.0 out ≡ value_of_entry a.0 made = changed-said a.0 places (location-untouched a.0 named) (wrappers_of c).texts c.entries p (attributes_made (rules_of_source c) s big_endian p) in
         subst (NameSaysWhere c.functions (in_force_at c p).surroundings.frame given (has_name a.0 before)) (sym same)
         (name-says c.functions (in_force_at c p).surroundings.frame given (value_made (attribute_becomes (rules_of_source c) s p before a)) (has_name a.0 before) (value_of_entry a.0 made)
-        (says-last (rules_of_source c) s big_endian p places before after a are plain (bounds-others (lists_of c) c.functions p.entry a.0 plain) last said.value) said.says)
+        (says-last (rules_of_source c) s big_endian p places before after a are plain (based-others c.told.output (p.entry.tag == DW_TAG_compile_unit) (range_attributes (lists_of c) c.functions p.entry) a.0 plain (bounds-others (lists_of c) c.functions p.entry a.0 plain)) last said.value) said.says)
 
 -- ---- units and modules
 

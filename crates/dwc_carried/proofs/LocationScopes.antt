@@ -17,6 +17,7 @@ use Rattle.dwc_native.specs.Placed.{Frame, NativeRange, needed_labels, is_byte_o
 use Rattle.dwc_native.specs.LabelRanges.{AtEachByte, bytes_of, is_wanted, all_bytes_placed, label_ranges}
 use Rattle.dwc_native.specs.BuiltExpressions.{Surroundings, BuildRefusal, BuiltExpressions, built_on, ranges_built, build_refusals, copied, built_on_ranges, built_over, label_over}
 use Rattle.dwc_rules.specs.LocationAttributes.{are_equal_to, value_of_built}
+use Rattle.dwc_native.specs.ScopesKept.{is_shown_in}
 use Rattle.dwc_native.specs.ScopesKept.{cover_byte, is_at_or_below, is_behind, IsInOneOf, KeepsScope, TranslationsKeepScopes, AreNumbered}
 use Rattle.dwc_carried.specs.LocationsCarried.{SaysWhere, said_over}
 use Rattle.dwc_native.proofs.LabelRangeLaws.{label-ranges}
@@ -89,13 +90,19 @@ pub record Exactly (fs : List Function) (frame : Option Frame) (scope : List (�
   pub wanted : (function byte : ℕ) → is_byte_of rs function byte ≡ true → is_wanted frame labels (scope_ranges fs scope) function byte ≡ true
   pub there : (function byte : ℕ) → is_wanted frame labels (scope_ranges fs scope) function byte ≡ true → is_byte_of rs function byte ≡ true
 
+-- what follow from each other are the same
+both-true : (a b : Bool) → (a ≡ true → b ≡ true) → (b ≡ true → a ≡ true) → a ≡ b
+both-true true b there back = sym (there refl)
+both-true false true there back = back refl
+both-true false false there back = refl
+
 module _ (fs : List Function) (frame : Option Frame) (scope : List (ℕ × ℕ)) (labels : List ℕ) (kept : KeepsScope fs scope (scope_intervals fs scope)) where
   abbrev in_scope : ℕ → ℕ → Bool
   in_scope function byte = is_byte_of (scope_ranges fs scope) function byte
 
   pub says : (rs : List NativeRange) → Exactly fs frame scope labels rs → All (IsInOneOf fs) (map as_interval rs) → SaysWhere fs frame scope labels (map as_interval rs)
-  says rs exact inside =
-      let back : (function byte : ℕ) → cover_byte (map as_interval rs) function byte ≡ true → is_wanted frame labels (scope_ranges fs scope) function byte ≡ true = λ function byte h. exact.wanted function byte (sym (intervals-cover rs function byte) ∙ h) in
+  says rs just inside =
+      let back : (function byte : ℕ) → cover_byte (map as_interval rs) function byte ≡ true → is_wanted frame labels (scope_ranges fs scope) function byte ≡ true = λ function byte h. just.wanted function byte (sym (intervals-cover rs function byte) ∙ h) in
       record {
         inside = inside;
         no_more = λ f byte source among named distinct h has.
@@ -103,7 +110,11 @@ module _ (fs : List Function) (frame : Option Frame) (scope : List (ℕ × ℕ))
         have_places = λ function byte h. (and_parts (in_scope function byte) (all_placed frame labels function byte) (back function byte h)).1;
         no_less = λ interval f byte source among at distinct within has from to placed.
             let covered = kept.no_less interval f byte source among at distinct within has from to in
-            intervals-cover rs f.number byte ∙ exact.there f.number byte (and_from (in_scope f.number byte) (all_placed frame labels f.number byte) (sym (scope-covers fs scope f.number byte) ∙ covered) placed);
+            intervals-cover rs f.number byte ∙ just.there f.number byte (and_from (in_scope f.number byte) (all_placed frame labels f.number byte) (sym (scope-covers fs scope f.number byte) ∙ covered) placed);
+        exact = λ f byte for_debugger among named within.
+            let shown : in_scope f.number byte ≡ is_shown_in fs scope f byte = sym (scope-covers fs scope f.number byte) ∙ kept.exact f byte for_debugger among named within in
+            intervals-cover rs f.number byte ∙ both-true (is_byte_of rs f.number byte) (is_wanted frame labels (scope_ranges fs scope) f.number byte) (just.wanted f.number byte) (just.there f.number byte)
+            ∙ ap (λ b. b && all_placed frame labels f.number byte) shown;
       }
 
   -- ---- the label ranges
@@ -327,6 +338,7 @@ nothing-says fs frame labels = record {
   no_more = λ f byte source among named distinct covered told. absurd (true≢false (sym covered));
   have_places = λ function byte covered. absurd (true≢false (sym covered));
   no_less = λ interval f byte source among found distinct inside told from to placed. absurd (omega (arith, among.1));
+  exact = λ f byte for_debugger among named within. refl;
 }
 
 -- The list of a label says where it lies, over any scope.

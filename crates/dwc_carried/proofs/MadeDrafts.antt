@@ -65,12 +65,12 @@ module _ (P : Draft → Type 0) where
         (each_both P inside (wrapper_types s e ++ outside) (each-inner e.entry.depth ds h) (each_both P (wrapper_types s e) outside types (each-outer e.entry.depth ds h)))
 
     -- What holds of what each kept entry becomes, by itself or wrapped, holds of all that is made.
-    pub each-made : (es : List Placed) → ((e : Placed) → IsIn e es → is_wrapped e ≡ false → Each P (clone e)) → ((e : Placed) → IsIn e es → is_wrapped e ≡ true → Each P (wrapper s e) × Each P (wrapper_types s e)) → Each P (entries_made s clone es)
+    pub each-made : (es : List Placed) → ((e : Placed) → IsIn e es → is_wrapped s.output e ≡ false → Each P (clone e)) → ((e : Placed) → IsIn e es → is_wrapped s.output e ≡ true → Each P (wrapper s e) × Each P (wrapper_types s e)) → Each P (entries_made s clone es)
     unfolding entries_made
     each-made [] plain wrapped = tt
-    each-made (e ∷ es) plain wrapped = go (is_wrapped e) refl (each-made es (λ f i. plain f (inr i)) (λ f i. wrapped f (inr i)))
+    each-made (e ∷ es) plain wrapped = go (is_wrapped s.output e) refl (each-made es (λ f i. plain f (inr i)) (λ f i. wrapped f (inr i)))
       where
-        go : (b : Bool) → is_wrapped e ≡ b → Each P (entries_made s clone es) → Each P (elim b [ true ↦ with_wrapper s e (entries_made s clone es) | false ↦ clone e ++ entries_made s clone es ])
+        go : (b : Bool) → is_wrapped s.output e ≡ b → Each P (entries_made s clone es) → Each P (elim b [ true ↦ with_wrapper s e (entries_made s clone es) | false ↦ clone e ++ entries_made s clone es ])
         go true is behind = let parts = wrapped e (inl refl) is in each-wrapped e (entries_made s clone es) parts.0 parts.1 behind
         go false is behind = each_both P (clone e) (entries_made s clone es) (plain e (inl refl) is) behind
 
@@ -108,8 +108,8 @@ module _ (Q : ℕ → Draft → Type 0) where
 
   -- What is said of a unit's kept entries that are not wrapped, and of all that can be made of the others, is said of all that is made of
   -- them.
-  each-itself : (c : ExpressionSource) (s : UnitSource) (big_endian : Bool) (es : List Placed) → ((e : Placed) → IsIn e es → is_wrapped e ≡ false → Q e.entry.offset (draft_told c s big_endian e))
-      → ((e : Placed) → IsIn e es → is_wrapped e ≡ true → (d : Draft) → Q e.entry.offset d) → Each IfMade (unit_drafts c s big_endian es)
+  each-itself : (c : ExpressionSource) (s : UnitSource) (big_endian : Bool) (es : List Placed) → ((e : Placed) → IsIn e es → is_wrapped c.told.output e ≡ false → Q e.entry.offset (draft_told c s big_endian e))
+      → ((e : Placed) → IsIn e es → is_wrapped c.told.output e ≡ true → (d : Draft) → Q e.entry.offset d) → Each IfMade (unit_drafts c s big_endian es)
   each-itself c s big_endian es plain wrapped =
       each-made IfMade (wrappers_of c) (entry_made c s big_endian) es
       (λ e i is. (made-itself (draft_told c s big_endian e) e.entry.offset refl (plain e i is), context e (context_over c e)))
@@ -138,8 +138,8 @@ module _ (m : Module) (u : Unit) (carried : IsIn u (carried_in (kept_of m))) (bi
   kept-says p i d says e among same =
       subst (λ (x : Entry). Says x (settled_entry places d)) (same-entry m.sections u p e (carried-read m u carried) (kept-placed m u p i) (contains-in u.entries e among) (sym same)) says
 
-  pub unit-says : ((p : Placed) → IsIn p kept_here → is_wrapped p ≡ false → Says p.entry (settled_entry places (draft_told (expressions_of m u) (source_of (kept_of m) u) big_endian p)))
-      → ((p : Placed) → IsIn p kept_here → is_wrapped p ≡ true → (out : TreeEntry) → Says p.entry out)
+  pub unit-says : ((p : Placed) → IsIn p kept_here → is_wrapped m.told.output p ≡ false → Says p.entry (settled_entry places (draft_told (expressions_of m u) (source_of (kept_of m) u) big_endian p)))
+      → ((p : Placed) → IsIn p kept_here → is_wrapped m.told.output p ≡ true → (out : TreeEntry) → Says p.entry out)
       → AllZip (λ d out. (e : Entry) → Contains u.entries e → is_made_of e.offset itself d ≡ true → Says e out) drafts_here (settled_unit places drafts_here)
   unit-says plain wrapped =
       zip-each (λ d out. (e : Entry) → Contains u.entries e → is_made_of e.offset itself d ≡ true → Says e out) (settled_entry places) drafts_here

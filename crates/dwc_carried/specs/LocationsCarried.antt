@@ -20,6 +20,7 @@ use Rattle.dwc_rules.specs.LocationAttributes.{ListedExpression}
 use Rattle.dwc_rules.specs.LocationRules.{ExpressionSource, in_force_at, listed_by}
 use Rattle.dwc_rules.specs.ScopesCarried.{value_of_entry}
 use Rattle.dwc_rules.specs.Wrappers.{is_wrapped}
+use Rattle.dwc_rules.specs.EntryRules.{is_gone}
 pub use Rattle.dwc_carried.specs.PlacesSaid.{SaysWhere}
 use Rattle.dwc_carried.specs.SimulatedLocations.{LocatesLabels}
 use Rattle.dwc_rules.specs.ModuleDrafts.{expressions_of}
@@ -90,11 +91,11 @@ NameSaysWhere fs frame given repeated v = ValueSaysWhere fs frame given v ⊎ ((
 
 -- ---- entries and units
 
--- An entry of an output carries the locations of an entry of an input that is not wrapped: of each name of a location what the
--- last attribute of that name says.
+-- An entry of an output carries the locations of an entry of an input that is not wrapped: of each name of a location that does not
+-- go what the last attribute of that name says.
 abbrev pub CarriesLocations : ExpressionSource → Placed → TreeEntry → Type 0
 CarriesLocations c e out =
-    (before after : List (ℕ × Value)) (a : ℕ × Value) → is_wrapped e ≡ false → e.entry.attributes ≡ before ++ a ∷ after → is_location_name a.0 ≡ true → has_name a.0 after ≡ false →
+    (before after : List (ℕ × Value)) (a : ℕ × Value) → is_wrapped c.told.output e ≡ false → is_gone c.told.output e.entry a.0 ≡ false → e.entry.attributes ≡ before ++ a ∷ after → is_location_name a.0 ≡ true → has_name a.0 after ≡ false →
     IfSome (use_of c e a) (λ given. NameSaysWhere c.functions (in_force_at c e).surroundings.frame given (has_name a.0 before) (value_of_entry a.0 out))
 
 -- The entries of a unit of an output, drafted one by one, carry the locations of the entries of a unit that they were made of.

@@ -7,6 +7,7 @@ use Rattle.dwc_native.specs.Functions.{Function}
 use Rattle.dwc_rules.specs.Carried.{Module}
 use Rattle.dwc_dwarf.specs.Trees.{Location, locations, TreeEntry, Tree}
 use Rattle.dwc_rules.specs.LocationRules.{frame_told}
+use Rattle.dwc_rules.specs.Scopes.{source_range}
 use Rattle.dwc_rules.specs.ScopesCarried.{value_of_entry}
 use Rattle.dwc_carried.specs.PlacesSaid.{SaysWhere}
 use Rattle.dwc_carried.specs.DefinedFunctions.{DefinedFunction}
@@ -31,7 +32,7 @@ label_uses translated ms = flat_map (λ m. flat_map (uses_in_function m) (simula
 pub record IsLabelLocated (u : LabelUse) (out : TreeEntry) : Type 0 where
   pub located : List Location
   pub lies : value_of_entry DW_AT_location out ≡ Some (locations located)
-  pub says : SaysWhere u.module_of.functions (Some (frame_told u.module_of.told u.function)) ((u.function.start, u.function.end) ∷ []) (u.label ∷ []) (map (λ l. l.over) located)
+  pub says : SaysWhere u.module_of.functions (Some (frame_told u.module_of.told u.function)) (source_range u.function) (u.label ∷ []) (map (λ l. l.over) located)
 
 -- The entries below the functions of the unit say so, one for each label with an entry, in order.
 abbrev pub LocatesLabels : (ℕ → Bool) → List Module → Tree → Type 0

@@ -1,9 +1,11 @@
 -- The unit of an output for the functions without debugging information of all modules, whose numbers are none of those that are
 -- translated: its entries, and what is refused of them. (This project's own tree; DWARF 4 and 5, sections 3.1.1, 3.3, 4.1 and 5.1.)
-use Rattle.std.specs.Prelude.{ℕ, ◌+◌, ◌==◌, pos, List, [], ◌∷◌, ◌++◌, length, map, Bool, ◌||◌, if◌then◌else◌, Option, Some, None, option_map, option_and_then, is_some, Result, codes}
+use Rattle.std.specs.Prelude.{ℕ, ◌+◌, ◌==◌, pos, List, [], ◌∷◌, ◌++◌, length, map, Bool, true, ◌||◌, if◌then◌else◌, Option, Some, None, option_map, option_and_then, is_some, Result, codes}
 use Rattle.std.specs.List.{filter, filter_map, flat_map}
 use Rattle.std.specs.Option.{unwrap_or}
 use Rattle.std.specs.Fmt.{decimal}
+use Rattle.dwc_base.specs.declared.records.OutputFor.{OutputFor}
+use Rattle.dwc_base.specs.declared.records.OutputFor.TheVariants.{Default}
 use Rattle.dwc_base.specs.declared.records.Address.TheVariants.{Symbol}
 use Rattle.dwc_base.specs.declared.constants.TheConstants.{DW_AT_byte_size, DW_AT_comp_dir, DW_AT_decl_file, DW_AT_decl_line, DW_AT_encoding, DW_AT_high_pc, DW_AT_language, DW_AT_location, DW_AT_low_pc, DW_AT_name, DW_AT_producer, DW_AT_ranges, DW_AT_stmt_list, DW_AT_type, DW_ATE_float, DW_ATE_signed, DW_FORM_data2, DW_LANG_C11, DW_TAG_base_type, DW_TAG_compile_unit, DW_TAG_formal_parameter, DW_TAG_subprogram, DW_TAG_variable}
 use Rattle.dwc_base.specs.Reading.{coded}
@@ -14,6 +16,8 @@ use Rattle.dwc_rules.specs.Drafts.{done, Draft}
 use Rattle.dwc_rules.specs.MadeEntries.{named, data1, udata, made}
 use Rattle.dwc_rules.specs.SyntheticUnit.{place_of_context_pointer}
 use Rattle.dwc_native.specs.Runs.{interval_of}
+use Rattle.dwc_rules.specs.RangeAttributes.{list_base}
+use Rattle.dwc_rules.specs.Scopes.{source_range}
 use Rattle.dwc_native.specs.Parts.{context_label}
 use Rattle.dwc_native.specs.BuiltExpressions.{BuildRefusal, Surroundings, label_over}
 use Rattle.dwc_rules.specs.LocationRules.{frame_told}
@@ -31,16 +35,22 @@ use Rattle.dwc_carried.specs.SimulatedFunctions.{simulated_functions}
 
 -- ---- the root
 
+-- whom the output is for; without a module that plays no part
+abbrev pub output_of : List Module → OutputFor
+output_of [] = Default
+output_of (m ∷ ms) = m.told.output
+
 -- the root of a unit of a path, with intervals of code
-abbrev pub simulated_root : List ℕ → List Interval → Draft
-simulated_root path whole =
+abbrev pub simulated_root : OutputFor → List ℕ → List Interval → Draft
+simulated_root output path whole =
     made 0 DW_TAG_compile_unit (
     named DW_AT_producer (text (codes "wasmtime"))
     ∷ named DW_AT_language (constant DW_FORM_data2 DW_LANG_C11)
     ∷ named DW_AT_name (text (path_name path))
     ∷ named DW_AT_stmt_list line_table
     ∷ named DW_AT_comp_dir (text (path_directory path))
-    ∷ named DW_AT_ranges (ranges whole) ∷ [])
+    ∷ map (λ a. named a.0 a.1) (list_base output true)
+    ++ named DW_AT_ranges (ranges whole) ∷ [])
 
 -- the interval of a function whole, none for one without code
 abbrev pub whole_interval : Function → Option Interval
@@ -76,7 +86,7 @@ surroundings_of m f = record { functions = m.functions; frame = Some (frame_told
 
 -- Where the value of a label of a function lies over all of that function's source, or why that is refused.
 unfoldable pub label_locations : Module → Function → ℕ → Result (List Location) BuildRefusal
-label_locations m f label = label_over (surroundings_of m f) ((f.start, f.end) ∷ []) label
+label_locations m f label = label_over (surroundings_of m f) (source_range f) label
 
 -- ---- variables
 
@@ -155,7 +165,7 @@ modules_entries translated unit (pointer ∷ pointers) (m ∷ ms) = flat_map (fu
 
 -- The unit of a path, of a number, with these types: the root, the types of numbers, and the simulated functions in order.
 unfoldable pub simulated_unit : (ℕ → Bool) → List ℕ → ℕ → List TreeValue → List Module → List Draft
-simulated_unit translated path unit pointers ms = simulated_root path (flat_map (whole_intervals translated) ms) ∷ base_types ++ modules_entries translated unit pointers ms
+simulated_unit translated path unit pointers ms = simulated_root (output_of ms) path (flat_map (whole_intervals translated) ms) ∷ base_types ++ modules_entries translated unit pointers ms
 
 -- ---- refusals
 

@@ -1,6 +1,8 @@
 -- What a code generator tells of where values lie. (No standard has this: it is the code generator's own.)
 use Rattle.std.specs.Prelude.{ℕ, ◌-◌, ℤ, List, [], Option, None, slice_get}
 use Rattle.std.specs.Option.{unwrap_or}
+use Rattle.dwc_base.specs.declared.records.OutputFor.{OutputFor}
+use Rattle.dwc_base.specs.declared.records.OutputFor.TheVariants.{Default}
 use Rattle.dwc_native.specs.CallFrames.{FrameDescription}
 
 -- where a value lies: in a register of the code generator, or in memory at an offset from the canonical frame address
@@ -26,11 +28,12 @@ pub record LinkageNames : Type 0 where
   pub set_memory : List ℕ
   pub resolve_memory : List ℕ
 
--- What a code generator tells of a module beside its functions: the module's place among all; where the values of each function lie,
+-- What is told of a module beside its functions: whom the output is for; the module's place among all; where the values of each function lie,
 -- by its number and their labels; those labels, in rising order; how each function
 -- unwinds, if that is told; the linear memory; the DWARF numbers of the target's registers; and the
 -- names of its own functions.
 pub record ToldModule : Type 0 where
+  pub output : OutputFor
   pub place : ℕ
   pub values : ℕ → ℕ → List LabelRange
   pub labels : ℕ → List ℕ
@@ -54,6 +57,7 @@ frames_from first functions number = unwrap_or (slice_get functions (number - fi
 -- of a module of which nothing is told
 abbrev pub nothing_told : ToldModule
 nothing_told = record {
+  output = Default;
   place = 0;
   values = λ function label. [];
   labels = λ function. [];

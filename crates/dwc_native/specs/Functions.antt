@@ -3,6 +3,7 @@
 use Rattle.std.specs.Prelude.{ℕ, ◌+◌, ◌-◌, ◌==◌, List, [], ◌∷◌, map, Bool, true, nat_lt, nat_le, ◌||◌, ◌&&◌, if◌then◌else◌, Option, Some, None, option_map, is_some}
 use Rattle.std.specs.Option.{unwrap_or}
 use Rattle.std.specs.List.{filter_map}
+use Rattle.dwc_base.specs.declared.records.OutputFor.{OutputFor}
 use Rattle.dwc_base.specs.declared.records.MapFault.{MapFault}
 use Rattle.dwc_base.specs.declared.records.MapFault.TheVariants.{BodyOffset, NoStart, BeforeCodeSection, Reversed, CodeFalls, CodePastBody, SourceOutside}
 
@@ -44,8 +45,9 @@ map_fault code_offset m = if m.body_offset == 0 then bounds_fault code_offset m 
 
 -- A defined function, its offsets in the wasm counted from the contents of the code section. `number` counts the
 -- functions of all modules, and names the function in addresses of the output; it is 0 where the function has no symbol.
--- `symbol` is the number where it has one.
+-- `symbol` is the number where it has one, `output` whom intervals of its code are translated for.
 pub record Function : Type 0 where
+  pub output : OutputFor
   pub number : ℕ
   pub symbol : Option ℕ
   pub start : ℕ
@@ -58,8 +60,9 @@ abbrev pub wasm_entry : ℕ → ℕ × Option ℕ → ℕ × Option ℕ
 wasm_entry code_offset e = (e.0, option_map (λ source. source - code_offset) e.1)
 
 -- the function of a map that is good
-abbrev pub function_of : ℕ → ℕ → AddressMap → Function
-function_of code_offset number m = record {
+abbrev pub function_of : OutputFor → ℕ → ℕ → AddressMap → Function
+function_of output code_offset number m = record {
+  output = output;
   number = unwrap_or (option_map (λ s. number) m.symbol) 0;
   symbol = option_map (λ s. number) m.symbol;
   start = unwrap_or m.start 0 - code_offset;
@@ -69,9 +72,9 @@ function_of code_offset number m = record {
 }
 
 -- the functions of a module, of whose functions the first has a number
-abbrev pub functions_of : ℕ → ℕ → List AddressMap → List Function
-functions_of code_offset number [] = []
-functions_of code_offset number (m ∷ ms) = function_of code_offset number m ∷ functions_of code_offset (number + 1) ms
+abbrev pub functions_of : OutputFor → ℕ → ℕ → List AddressMap → List Function
+functions_of output code_offset number [] = []
+functions_of output code_offset number (m ∷ ms) = function_of output code_offset number m ∷ functions_of output code_offset (number + 1) ms
 
 -- of a function and those behind it, the owner of an address
 abbrev pub owner_with : Function → ℕ → Option Function → Option Function

@@ -1,4 +1,5 @@
 pub mod Functions
+pub mod ShownSources
 pub mod SharedSymbols
 pub mod Images
 pub mod Runs

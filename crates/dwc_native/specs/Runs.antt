@@ -5,6 +5,8 @@ use Rattle.std.specs.Option.{option_or, unwrap_or}
 use Rattle.std.specs.List.{cons_option, filter, find, list_any}
 use Rattle.dwc_base.specs.declared.records.Address.{Address}
 use Rattle.dwc_base.specs.declared.records.Address.TheVariants.{Symbol}
+use Rattle.dwc_base.specs.declared.records.OutputFor.TheVariants.{Default, Debugger}
+use Rattle.dwc_native.specs.ShownSources.{exact_ranges}
 use Rattle.dwc_native.specs.Functions.{AddressMap, map_fault, Function, function_of, function_at}
 use Rattle.dwc_base.specs.Wasm.{last_of}
 use Rattle.dwc_base.specs.Listing.{first_of}
@@ -122,10 +124,14 @@ meets start end r = nat_lt r.wasm_start end && nat_le start r.wasm_end
 abbrev pub is_range : ℕ × ℕ → Bool
 is_range r = nat_lt r.0 r.1
 
--- The native ranges of an interval of wasm offsets in a function: of each run that has code of it, in native order. An
--- interval that is empty or reversed has none.
+-- The native ranges of an interval of wasm offsets, its end included, in a function: of each run that has code of it, in native
+-- order. An interval that is empty or reversed has none.
+abbrev pub closed_ranges : Function → ℕ → ℕ → List (ℕ × ℕ)
+closed_ranges f start end = if nat_lt start end then filter is_range (map (λ r. (start_in start r, end_in end r)) (filter (meets start end) (runs f))) else []
+
+-- The native ranges of an interval of wasm offsets in a function; for a debugger they are exact at every byte.
 unfoldable pub native_ranges : Function → ℕ → ℕ → List (ℕ × ℕ)
-native_ranges f start end = if nat_lt start end then filter is_range (map (λ r. (start_in start r, end_in end r)) (filter (meets start end) (runs f))) else []
+native_ranges f start end = elim f.output [ Default ↦ closed_ranges f start end | Debugger ↦ exact_ranges f start end ]
 
 -- a native range of a function as an interval of addresses
 abbrev pub interval_of : ℕ → ℕ × ℕ → Interval
@@ -165,7 +171,7 @@ pub record HasGoodMap (f : Function) : Type 0 where
   pub code_offset : ℕ
   pub address_map : AddressMap
   pub good : map_fault code_offset address_map ≡ None
-  pub made : f ≡ function_of code_offset f.number address_map
+  pub made : f ≡ function_of f.output code_offset f.number address_map
 
 -- The laws on functions with good maps. What an interval is translated to ascends in the function that it begins in; and
 -- each wasm offset from a function's start to its end is one that some run has.

@@ -2,10 +2,12 @@
 use Rattle.std.specs.Prelude.{◌≡◌, ◌≢◌, ℕ, ◌<◌, ◌≤◌, ◌==◌, pos, int_le, int_lt, List, [], ◌∷◌, Bool, true, false, ◌&&◌, nat_le, if◌then◌else◌, Option, Some, None, option_map, option_and_then, is_some, AllPairs, Contains, All}
 use Rattle.std.specs.Option.{option_or}
 use Rattle.std.specs.List.{filter, filter_map, list_any, flat_map}
+use Rattle.dwc_base.specs.declared.records.OutputFor.TheVariants.{Debugger}
 use Rattle.dwc_base.specs.declared.records.Address.{Address}
 use Rattle.dwc_base.specs.declared.records.Address.TheVariants.{Constant, Symbol}
 use Rattle.dwc_native.specs.Functions.{Function, function_at, recorded_sources}
 use Rattle.dwc_dwarf.specs.Trees.{Interval, address}
+use Rattle.dwc_native.specs.ShownSources.{shown_source, is_source_in}
 use Rattle.dwc_native.specs.Runs.{HasGoodMap, translated, native}
 
 -- a number of the input, as an interval's end
@@ -47,6 +49,18 @@ is_behind function byte (Symbol f addend) = (f == function) && int_lt (pos byte)
 abbrev pub cover_byte : List Interval → ℕ → ℕ → Bool
 cover_byte is function byte = list_any (λ i. is_at_or_below function byte i.begin && is_behind function byte i.end) is
 
+-- whether an interval begins in a function
+abbrev pub begins_in : List Function → Function → ℕ × ℕ → Bool
+begins_in fs f i = is_number_said (function_at fs i.0)
+  where
+    is_number_said : Option Function → Bool
+    is_number_said None = false
+    is_number_said (Some g) = g.number == f.number
+
+-- whether a source of a scope is shown at a byte of a function
+abbrev pub is_shown_in : List Function → List (ℕ × ℕ) → Function → ℕ → Bool
+is_shown_in fs scope f byte = list_any (λ i. begins_in fs f i && is_source_in i.0 i.1 (shown_source f byte)) scope
+
 -- a source lies in a closed interval of a scope
 pub record IsInSome (scope : List (ℕ × ℕ)) (source : ℕ) : Type 0 where
   pub interval : ℕ × ℕ
@@ -65,7 +79,8 @@ pub record IsInOneOf (fs : List Function) (i : Interval) : Type 0 where
 
 -- Intervals of an output keep a scope of the input, in the functions of a module that have a symbol: they lie in these functions; they
 -- cover no byte whose source lies outside all its closed intervals; and of each interval every byte of its function whose source
--- is from its begin to before its end. Nothing is said of a function in which two sources stand at one native offset.
+-- is from its begin to before its end. Nothing of this is said of a function in which two sources stand at one native offset. For a
+-- debugger they cover exactly the bytes at which a source of the scope is shown, in every function.
 pub record KeepsScope (fs : List Function) (scope : List (ℕ × ℕ)) (is : List Interval) : Type 0 where
   pub inside : All (IsInOneOf fs) is
   pub no_more :
@@ -74,6 +89,9 @@ pub record KeepsScope (fs : List Function) (scope : List (ℕ × ℕ)) (is : Lis
   pub no_less :
       (interval : ℕ × ℕ) (f : Function) (byte source : ℕ) → Contains scope interval → function_at fs interval.0 ≡ Some f → HasDistinctSources f → byte < f.length →
       source_of_byte f byte ≡ Some source → interval.0 ≤ source → source < interval.1 → cover_byte is f.number byte ≡ true
+  pub exact :
+      (f : Function) (byte : ℕ) → f.output ≡ Debugger → Contains fs f → is_some f.symbol ≡ true → byte < f.length →
+      cover_byte is f.number byte ≡ is_shown_in fs scope f byte
 
 -- Functions have good maps, and those with a symbol have numbers of their own.
 pub record AreNumbered (fs : List Function) : Type 0 where

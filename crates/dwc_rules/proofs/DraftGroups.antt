@@ -57,12 +57,12 @@ module _ (P : List Draft → Type 0) (together : (g : List Draft) → P g → St
           (subst (Groups P) (sym (inner-none depth d (g ++ rest) high)) none, subst (Groups P) (sym (outer-all depth d (g ++ rest) high)) (more (d ∷ g) rest p h))
 
   -- What is made of kept entries is made of groups, where what each becomes is one, and both parts of a wrapper are.
-  pub groups-made : (s : WrapperSource) (clone : Placed → List Draft) (es : List Placed) → ((e : Placed) → IsIn e es → is_wrapped e ≡ false → P (clone e)) → ((e : Placed) → IsIn e es → is_wrapped e ≡ true → P (wrapper s e) × P (wrapper_types s e)) → Groups P (entries_made s clone es)
+  pub groups-made : (s : WrapperSource) (clone : Placed → List Draft) (es : List Placed) → ((e : Placed) → IsIn e es → is_wrapped s.output e ≡ false → P (clone e)) → ((e : Placed) → IsIn e es → is_wrapped s.output e ≡ true → P (wrapper s e) × P (wrapper_types s e)) → Groups P (entries_made s clone es)
   unfolding entries_made
   groups-made s clone [] plain wrapped = none
-  groups-made s clone (e ∷ es) plain wrapped = go (is_wrapped e) refl (groups-made s clone es (λ f i. plain f (inr i)) (λ f i. wrapped f (inr i)))
+  groups-made s clone (e ∷ es) plain wrapped = go (is_wrapped s.output e) refl (groups-made s clone es (λ f i. plain f (inr i)) (λ f i. wrapped f (inr i)))
     where
-      go : (b : Bool) → is_wrapped e ≡ b → Groups P (entries_made s clone es) → Groups P (elim b [ true ↦ with_wrapper s e (entries_made s clone es) | false ↦ clone e ++ entries_made s clone es ])
+      go : (b : Bool) → is_wrapped s.output e ≡ b → Groups P (entries_made s clone es) → Groups P (elim b [ true ↦ with_wrapper s e (entries_made s clone es) | false ↦ clone e ++ entries_made s clone es ])
       go false is behind = more (clone e) (entries_made s clone es) (plain e (inl refl) is) behind
       go true is behind =
           let parts = wrapped e (inl refl) is in

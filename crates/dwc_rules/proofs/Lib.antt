@@ -8,6 +8,7 @@ pub mod NameSteps
 pub mod DraftGroups
 pub mod LocationValues
 pub mod ScopeAttributes
+pub mod ListBaseLaws
 pub mod StackLaws
 pub mod StackWalks
 pub mod GoalsHave

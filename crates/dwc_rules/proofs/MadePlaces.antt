@@ -5,6 +5,7 @@ use Rattle.std.specs.Prelude.{◌&&◌, ◌||◌, if◌then◌else◌, cond, nat
 use Rattle.std.specs.List.{position_from}
 use Rattle.std.proofs.lemmas.Bool.{eqb-true, false_from_ne_true, ltb-true, ltb-false}
 use Rattle.std.proofs.lemmas.Iterator.Adapters.{position_from-zero}
+use Rattle.dwc_base.specs.declared.records.OutputFor.{OutputFor}
 use Rattle.dwc_rules.specs.Kept.{Placed}
 use Rattle.dwc_dwarf.specs.Trees.{Location}
 use Rattle.dwc_rules.specs.Drafts.{Role, itself, pointer_to_wrapper, reference_to_target, pointer_to_target, Draft}
@@ -71,15 +72,15 @@ module _ (p : Draft → Bool) where
       go false is others = ap₂ (λ xs ys. many p xs + many p ys) (inner-none depth d ds (ltb-false depth d.depth is)) (outer-all depth d ds (ltb-false depth d.depth is)) ∙ omega arith
 
   module _ (s : WrapperSource) (clone : Placed → List Draft) (q : Placed → Bool)
-      (plain : (e : Placed) → is_wrapped e ≡ false → many p (clone e) ≡ one_if (q e))
-      (wrapped : (e : Placed) → is_wrapped e ≡ true → many p (wrapper s e) + many p (wrapper_types s e) ≡ one_if (q e)) where
+      (plain : (e : Placed) → is_wrapped s.output e ≡ false → many p (clone e) ≡ one_if (q e))
+      (wrapped : (e : Placed) → is_wrapped s.output e ≡ true → many p (wrapper s e) + many p (wrapper_types s e) ≡ one_if (q e)) where
     -- Where of what each entry becomes one passes or none, so many pass as there are entries of which one does.
     many-made : (es : List Placed) → many p (entries_made s clone es) ≡ many q es
     unfolding entries_made
     many-made [] = refl
-    many-made (e ∷ es) = go (is_wrapped e) refl (many-made es)
+    many-made (e ∷ es) = go (is_wrapped s.output e) refl (many-made es)
       where
-        go : (b : Bool) → is_wrapped e ≡ b → many p (entries_made s clone es) ≡ many q es → many p (elim b [ true ↦ with_wrapper s e (entries_made s clone es) | false ↦ clone e ++ entries_made s clone es ]) ≡ one_if (q e) + many q es
+        go : (b : Bool) → is_wrapped s.output e ≡ b → many p (entries_made s clone es) ≡ many q es → many p (elim b [ true ↦ with_wrapper s e (entries_made s clone es) | false ↦ clone e ++ entries_made s clone es ]) ≡ one_if (q e) + many q es
         go false is others = omega (arith, many-both p (clone e) (entries_made s clone es), plain e is, others)
         go true is others =
             let inside = inner e.entry.depth (entries_made s clone es) in
@@ -89,34 +90,34 @@ module _ (p : Draft → Bool) where
 -- ---- roles
 
 -- whether an entry is made of an entry at an offset in a role: of each itself, and of wrapped ones in all roles
-abbrev pub is_source : ℕ → Role → Placed → Bool
-is_source offset role e = (e.entry.offset == offset) && (is_wrapped e || (role_number role == 0))
+abbrev pub is_source : OutputFor → ℕ → Role → Placed → Bool
+is_source output offset role e = (e.entry.offset == offset) && (is_wrapped output e || (role_number role == 0))
 
 -- of entries whose offsets rise one at most is at an offset
-sources-above : (low offset : ℕ) (role : Role) (es : List Placed) → Rises low es → suc offset ≤ low → many (is_source offset role) es ≡ 0
-sources-above low offset role [] rises above = refl
-sources-above low offset role (e ∷ es) rises above =
+sources-above : (output : OutputFor) (low offset : ℕ) (role : Role) (es : List Placed) → Rises low es → suc offset ≤ low → many (is_source output offset role) es ≡ 0
+sources-above output low offset role [] rises above = refl
+sources-above output low offset role (e ∷ es) rises above =
     let apart : (e.entry.offset == offset) ≡ false = false_from_ne_true (e.entry.offset == offset) (λ same. let is : e.entry.offset ≡ offset = eqb-true e.entry.offset offset same in omega (arith, rises.0, above, is)) in
-    let here : one_if (is_source offset role e) ≡ 0 = ap (λ b. one_if (b && (is_wrapped e || (role_number role == 0)))) apart in
-    omega (arith, here, sources-above (suc e.entry.offset) offset role es rises.1 (omega (arith, rises.0, above)))
+    let here : one_if (is_source output offset role e) ≡ 0 = ap (λ b. one_if (b && (is_wrapped output e || (role_number role == 0)))) apart in
+    omega (arith, here, sources-above output (suc e.entry.offset) offset role es rises.1 (omega (arith, rises.0, above)))
 
-pub sources-once : (low offset : ℕ) (role : Role) (es : List Placed) → Rises low es → many (is_source offset role) es ≤ 1
-sources-once low offset role [] rises = omega arith
-sources-once low offset role (e ∷ es) rises = go (e.entry.offset == offset) refl (sources-once (suc e.entry.offset) offset role es rises.1)
+pub sources-once : (output : OutputFor) (low offset : ℕ) (role : Role) (es : List Placed) → Rises low es → many (is_source output offset role) es ≤ 1
+sources-once output low offset role [] rises = omega arith
+sources-once output low offset role (e ∷ es) rises = go (e.entry.offset == offset) refl (sources-once output (suc e.entry.offset) offset role es rises.1)
   where
     at-most : (b : Bool) → one_if b ≤ 1
     at-most true = omega arith
     at-most false = omega arith
 
-    go : (b : Bool) → (e.entry.offset == offset) ≡ b → many (is_source offset role) es ≤ 1 → one_if (is_source offset role e) + many (is_source offset role) es ≤ 1
+    go : (b : Bool) → (e.entry.offset == offset) ≡ b → many (is_source output offset role) es ≤ 1 → one_if (is_source output offset role e) + many (is_source output offset role) es ≤ 1
     go true is others =
         let same : e.entry.offset ≡ offset = eqb-true e.entry.offset offset is in
-        omega (arith, at-most (is_source offset role e), sources-above (suc e.entry.offset) offset role es rises.1 (omega (arith, same)))
-    go false is others = let here : one_if (is_source offset role e) ≡ 0 = ap (λ b. one_if (b && (is_wrapped e || (role_number role == 0)))) is in omega (arith, here, others)
+        omega (arith, at-most (is_source output offset role e), sources-above output (suc e.entry.offset) offset role es rises.1 (omega (arith, same)))
+    go false is others = let here : one_if (is_source output offset role e) ≡ 0 = ap (λ b. one_if (b && (is_wrapped output e || (role_number role == 0)))) is in omega (arith, here, others)
 
 module _ (c : ExpressionSource) (s : UnitSource) (big_endian : Bool) (offset : ℕ) (role : Role) where
   -- by itself an entry becomes one itself, and the variable of the context stems from none
-  plain-many : (e : Placed) → is_wrapped e ≡ false → many (is_made_of offset role) (entry_made c s big_endian e) ≡ one_if (is_source offset role e)
+  plain-many : (e : Placed) → is_wrapped c.told.output e ≡ false → many (is_made_of offset role) (entry_made c s big_endian e) ≡ one_if (is_source c.told.output offset role e)
   plain-many e plain = first role ∙ ap (λ b. one_if ((e.entry.offset == offset) && (b || (role_number role == 0)))) (sym plain)
     where
       context : (r : Role) (o : Option (Result (List Location) BuildRefusal)) → many (is_made_of offset r) (option_to_list (option_map (λ located. context_variable (suc e.entry.depth) (context_pointer c) (locations_or_none located)) o)) ≡ 0
@@ -133,7 +134,7 @@ module _ (c : ExpressionSource) (s : UnitSource) (big_endian : Bool) (offset : �
       first reference_to_target = omega (arith, none (e.entry.offset == offset), context reference_to_target (context_over c e))
       first pointer_to_target = omega (arith, none (e.entry.offset == offset), context pointer_to_target (context_over c e))
 
-  wrapped-many : (e : Placed) → is_wrapped e ≡ true → many (is_made_of offset role) (wrapper (wrappers_of c) e) + many (is_made_of offset role) (wrapper_types (wrappers_of c) e) ≡ one_if (is_source offset role e)
+  wrapped-many : (e : Placed) → is_wrapped c.told.output e ≡ true → many (is_made_of offset role) (wrapper (wrappers_of c) e) + many (is_made_of offset role) (wrapper_types (wrappers_of c) e) ≡ one_if (is_source c.told.output offset role e)
   wrapped-many e wrapped =
       let front : many (is_made_of offset role) (wrapper (wrappers_of c) e) ≡ one_if ((e.entry.offset == offset) && (0 == role_number role)) = omega arith in
       ap (λ n. n + many (is_made_of offset role) (wrapper_types (wrappers_of c) e)) front ∙ go role (e.entry.offset == offset) ∙ ap (λ b. one_if ((e.entry.offset == offset) && (b || (role_number role == 0)))) (sym wrapped)
@@ -149,11 +150,11 @@ module _ (c : ExpressionSource) (s : UnitSource) (big_endian : Bool) (offset : �
       go pointer_to_target false = refl
 
   -- So many entries are made in a role as there are kept ones at the offset that are made in it.
-  pub made-many : (es : List Placed) → many (is_made_of offset role) (unit_drafts c s big_endian es) ≡ many (is_source offset role) es
-  made-many es = many-made (is_made_of offset role) (wrappers_of c) (entry_made c s big_endian) (is_source offset role) plain-many wrapped-many es
+  pub made-many : (es : List Placed) → many (is_made_of offset role) (unit_drafts c s big_endian es) ≡ many (is_source c.told.output offset role) es
+  made-many es = many-made (is_made_of offset role) (wrappers_of c) (entry_made c s big_endian) (is_source c.told.output offset role) plain-many wrapped-many es
 
   -- The entry that is made stands where it is looked for.
-  pub made-place : (es : List Placed) (front rest : List Draft) (d : Draft) → unit_drafts c s big_endian es ≡ front ++ d ∷ rest → is_made_of offset role d ≡ true → many (is_source offset role) es ≤ 1
+  pub made-place : (es : List Placed) (front rest : List Draft) (d : Draft) → unit_drafts c s big_endian es ≡ front ++ d ∷ rest → is_made_of offset role d ≡ true → many (is_source c.told.output offset role) es ≤ 1
       → position (is_made_of offset role) (unit_drafts c s big_endian es) ≡ Some (length front)
   made-place es front rest d are made once =
       ap (position (is_made_of offset role)) are
@@ -162,5 +163,5 @@ module _ (c : ExpressionSource) (s : UnitSource) (big_endian : Bool) (offset : �
       ∙ ap Some (omega arith)
 
   -- Where there is none at the offset, or it is not wrapped, none is found.
-  pub made-nowhere : (es : List Placed) → many (is_source offset role) es ≡ 0 → position (is_made_of offset role) (unit_drafts c s big_endian es) ≡ None
+  pub made-nowhere : (es : List Placed) → many (is_source c.told.output offset role) es ≡ 0 → position (is_made_of offset role) (unit_drafts c s big_endian es) ≡ None
   made-nowhere es none = position_from-zero (is_made_of offset role) (unit_drafts c s big_endian es) ∙ place-none (is_made_of offset role) 0 (unit_drafts c s big_endian es) (made-many es ∙ none)

@@ -17,7 +17,7 @@ use Rattle.dwc_dwarf.specs.Values.{Value}
 use Rattle.dwc_dwarf.specs.Trees.{Interval, TreeValue, constant, ranges, TreeEntry, set_attribute, set_in_order, entry}
 use Rattle.dwc_rules.specs.Drafts.{Goal, DraftValue, done, goes_to}
 use Rattle.dwc_rules.specs.DraftForests.{settled}
-use Rattle.dwc_rules.specs.Clones.{CodeRules, UnitSource, is_dropped_name, is_bound_name, value_becomes, nothing_unless, bound_becomes, text_becomes, table_becomes, attribute_becomes, attributes_become, if_made, endianity, attributes_made}
+use Rattle.dwc_rules.specs.Clones.{kept_unless, CodeRules, UnitSource, is_dropped_name, is_bound_name, value_becomes, nothing_unless, bound_becomes, text_becomes, table_becomes, attribute_becomes, attributes_become, if_made, endianity, attributes_made}
 use Rattle.dwc_rules.specs.RangeAttributes.{begun_function, intervals, extent, bounds, length_of, said_intervals, said_extent, range_attributes}
 use Rattle.dwc_native.specs.ScopesKept.{native_of_intervals}
 use Rattle.dwc_rules.specs.ScopesCarried.{value_of_entry, bounded, behind, listed_or, covered_intervals}
@@ -88,13 +88,13 @@ module _ (rules : CodeRules Refusal) (s : UnitSource) (e : Placed) where
         | true ↦ Ok None
         | false ↦ elim lines [
           | true ↦ Ok (table_becomes s e)
-          | false ↦ elim bound [ true ↦ bound_becomes rules s e before a | false ↦ value_becomes rules s e before a.0 a.1 ]
+          | false ↦ elim bound [ true ↦ bound_becomes rules s e before a | false ↦ kept_unless (rules.goes e a.0) (value_becomes rules s e before a.0 a.1) ]
         ]
       ])
       go true lines named bound is = λ y made. absurd (none_is y made)
       go false true named bound is = other-made a.0 (Ok (table_becomes s e)) (ap is_bound_name (eqb-true a.0 DW_AT_stmt_list named))
       go false false named true is = bound-made a.0 (text_becomes rules s e a.1) (rules.refused_bound e before a)
-      go false false named false is = other-made a.0 (value_becomes rules s e before a.0 a.1) is
+      go false false named false is = other-made a.0 (kept_unless (rules.goes e a.0) (value_becomes rules s e before a.0 a.1)) is
 
   attributes-other : (before others : List (ℕ × Value)) → Each (λ a. (y : ℕ × DraftValue) → if_made a.0 a.1 ≡ Some y → IsOther y) (attributes_become rules s e before others)
   unfolding attributes_become

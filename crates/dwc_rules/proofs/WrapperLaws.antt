@@ -95,7 +95,7 @@ each-all P Q step (x ∷ xs) h = (step x (All-head P x xs h), each-all P Q step 
 module _ (s : WrapperSource) (clone : Placed → List Draft) (in_place : StayInPlace clone) where
   begins : (x : Placed) (xs : List Placed) → BeginAt x.entry.depth (entries_made s clone (x ∷ xs))
   unfolding entries_made
-  begins x xs = go (is_wrapped x) (clone x) (in_place.begin x)
+  begins x xs = go (is_wrapped s.output x) (clone x) (in_place.begin x)
     where
       go : (wrapped : Bool) (ds : List Draft) → BeginAt x.entry.depth ds → BeginAt x.entry.depth (elim wrapped [ true ↦ with_wrapper s x (entries_made s clone xs) | false ↦ ds ++ entries_made s clone xs ])
       go true ds begin = refl
@@ -107,7 +107,7 @@ module _ (s : WrapperSource) (clone : Placed → List Draft) (in_place : StayInP
   made-closes e stack x xs above = closing-close s e stack x.entry.depth (entries_made s clone (x ∷ xs)) (begins x xs) above
 
   -- Where it lies below all that are open and is not wrapped, what it becomes by itself stands there.
-  pub made-plain : (stack : List Placed) (x : Placed) (xs : List Placed) → is_wrapped x ≡ false → IsBelowOpen stack x.entry.depth → closing s stack (entries_made s clone (x ∷ xs)) ≡ clone x ++ closing s stack (entries_made s clone xs)
+  pub made-plain : (stack : List Placed) (x : Placed) (xs : List Placed) → is_wrapped s.output x ≡ false → IsBelowOpen stack x.entry.depth → closing s stack (entries_made s clone (x ∷ xs)) ≡ clone x ++ closing s stack (entries_made s clone xs)
   unfolding entries_made
   made-plain stack x xs plain below =
       let split : entries_made s clone (x ∷ xs) ≡ clone x ++ entries_made s clone xs = rw (plain, entries_made) refl in
@@ -115,26 +115,26 @@ module _ (s : WrapperSource) (clone : Placed → List Draft) (in_place : StayInP
       ∙ closing-front s stack (clone x) (entries_made s clone xs) (each-all (λ d. x.entry.depth ≤ d.depth) (λ d. IsBelowOpen stack d.depth) (λ d more. deeper stack x.entry.depth d.depth below more) (clone x) (in_place.within x))
 
   -- Where it is wrapped, its wrapper stands there and is open.
-  pub made-wrapped : (stack : List Placed) (x : Placed) (xs : List Placed) → is_wrapped x ≡ true → IsBelowOpen stack x.entry.depth → closing s stack (entries_made s clone (x ∷ xs)) ≡ wrapper s x ++ closing s (x ∷ stack) (entries_made s clone xs)
+  pub made-wrapped : (stack : List Placed) (x : Placed) (xs : List Placed) → is_wrapped s.output x ≡ true → IsBelowOpen stack x.entry.depth → closing s stack (entries_made s clone (x ∷ xs)) ≡ wrapper s x ++ closing s (x ∷ stack) (entries_made s clone xs)
   unfolding entries_made
   made-wrapped stack x xs wrapped below =
       let split : entries_made s clone (x ∷ xs) ≡ with_wrapper s x (entries_made s clone xs) = rw (wrapped, entries_made) refl in
       ap (closing s stack) split ∙ closing-wrapper s stack x (entries_made s clone xs) below
 
-  made-below : (stack : List Placed) (x : Placed) (xs : List Placed) → IsBelowOpen stack x.entry.depth → closing s stack (entries_made s clone (x ∷ xs)) ≡ made_itself s clone x ++ closing s (open_behind x stack) (entries_made s clone xs)
-  made-below stack x xs below = go (is_wrapped x) refl
+  made-below : (stack : List Placed) (x : Placed) (xs : List Placed) → IsBelowOpen stack x.entry.depth → closing s stack (entries_made s clone (x ∷ xs)) ≡ made_itself s clone x ++ closing s (open_behind s.output x stack) (entries_made s clone xs)
+  made-below stack x xs below = go (is_wrapped s.output x) refl
     where
-      go : (b : Bool) → is_wrapped x ≡ b → closing s stack (entries_made s clone (x ∷ xs)) ≡ (if b then wrapper s x else clone x) ++ closing s (if b then x ∷ stack else stack) (entries_made s clone xs)
+      go : (b : Bool) → is_wrapped s.output x ≡ b → closing s stack (entries_made s clone (x ∷ xs)) ≡ (if b then wrapper s x else clone x) ++ closing s (if b then x ∷ stack else stack) (entries_made s clone xs)
       go true is = made-wrapped stack x xs is below
       go false is = made-plain stack x xs is below
 
   -- One entry after another: in front of each those are closed that it does not lie in; then it is made itself.
-  pub made-next : (stack : List Placed) (x : Placed) (xs : List Placed) → closing s stack (entries_made s clone (x ∷ xs)) ≡ types_closed s x.entry.depth stack ++ (made_itself s clone x ++ closing s (open_behind x (left_open x.entry.depth stack)) (entries_made s clone xs))
+  pub made-next : (stack : List Placed) (x : Placed) (xs : List Placed) → closing s stack (entries_made s clone (x ∷ xs)) ≡ types_closed s x.entry.depth stack ++ (made_itself s clone x ++ closing s (open_behind s.output x (left_open x.entry.depth stack)) (entries_made s clone xs))
   made-next [] x xs = made-below [] x xs tt
   made-next (e ∷ stack) x xs = go (nat_lt e.entry.depth x.entry.depth) refl (made-next stack x xs)
     where
       rest : List Placed → List Draft
-      rest left = made_itself s clone x ++ closing s (open_behind x left) (entries_made s clone xs)
+      rest left = made_itself s clone x ++ closing s (open_behind s.output x left) (entries_made s clone xs)
 
       go : (b : Bool) → nat_lt e.entry.depth x.entry.depth ≡ b → closing s stack (entries_made s clone (x ∷ xs)) ≡ types_closed s x.entry.depth stack ++ rest (left_open x.entry.depth stack)
           → closing s (e ∷ stack) (entries_made s clone (x ∷ xs)) ≡ (if b then [] else wrapper_types s e ++ types_closed s x.entry.depth stack) ++ rest (if b then e ∷ stack else left_open x.entry.depth stack)

@@ -28,12 +28,13 @@ pub record UnitSource : Type 0 where
 
 -- The rules for what speaks of code, E being what they can refuse: what a fault of a place is; of `low_pc`, `high_pc` and `ranges`
 -- what is written in front, and what is refused of each where it stands, behind the attributes before it; what an address, a list or
--- an expression becomes, behind those before it; and what is refused of an entry behind its attributes.
+-- an expression becomes, behind those before it; which names go once they were read; and what is refused of an entry behind its attributes.
 pub record CodeRules (E : Type 0) : Type 0 where
   pub of_fault : Fault → E
   pub bounds : Placed → List (ℕ × DraftValue)
   pub refused_bound : Placed → List (ℕ × Value) → ℕ × Value → Option E
   pub other : Placed → List (ℕ × Value) → ℕ × Value → Result (Option DraftValue) E
+  pub goes : Placed → ℕ → Bool
   pub behind : Placed → List E
 
 -- ---- names
@@ -113,6 +114,11 @@ bound_becomes rules s e before a = text_becomes rules s e a.1 >>= λ read. nothi
 abbrev pub table_becomes : UnitSource → Placed → Option DraftValue
 table_becomes s e = if (e.entry.depth == 0) && is_some s.table then Some (done line_table) else None
 
+-- a value that was read, and goes if said so
+abbrev pub kept_unless : {E : Type 0} → Bool → Result (Option DraftValue) E → Result (Option DraftValue) E
+kept_unless false v = v
+kept_unless true v = v >>= λ read. Ok None
+
 -- What an attribute of a kept entry becomes, behind some others, or what is refused of it.
 unfoldable pub attribute_becomes : {E : Type 0} → CodeRules E → UnitSource → Placed → List (ℕ × Value) → ℕ × Value → Result (Option DraftValue) E
 attribute_becomes rules s e before a =
@@ -120,7 +126,7 @@ attribute_becomes rules s e before a =
       | true ↦ Ok None
       | false ↦ elim (a.0 == DW_AT_stmt_list) [
         | true ↦ Ok (table_becomes s e)
-        | false ↦ elim (is_bound_name a.0) [ true ↦ bound_becomes rules s e before a | false ↦ value_becomes rules s e before a.0 a.1 ]
+        | false ↦ elim (is_bound_name a.0) [ true ↦ bound_becomes rules s e before a | false ↦ kept_unless (rules.goes e a.0) (value_becomes rules s e before a.0 a.1) ]
       ]
     ]
 

@@ -23,6 +23,6 @@ IsInFileOrder ds = IsTrue (are_within 0 (map (λ d. d.depth) ds))
 abbrev pub KeepFileOrder : WrapperSource → (Placed → List Draft) → Placed → List Placed → Type 0
 KeepFileOrder s clone root es =
     ((e : Placed) → IsTrue (are_within e.entry.depth (map (λ d. d.depth) (clone e))))
-    → IsTrue (not (is_wrapped root))
+    → IsTrue (not (is_wrapped s.output root))
     → IsTrue (are_within 0 (map (λ e. e.entry.depth) (root ∷ es)))
     → IsInFileOrder (entries_made s clone (root ∷ es))

@@ -1,6 +1,9 @@
 -- What of the code of a unit's entries is carried: which entries are required, what is refused to know that, and what the
 -- attributes of the kept ones become. (DWARF 4 and 5, section 2.17; this project's own rules.)
-use Rattle.std.specs.Prelude.{ℕ, List, ◌++◌, map, Bool, Option, option_map, Result}
+use Rattle.std.specs.Prelude.{ℕ, ◌==◌, List, ◌++◌, map, Bool, false, not, ◌&&◌, ◌||◌, Option, option_map, Result}
+use Rattle.dwc_base.specs.declared.records.OutputFor.{OutputFor}
+use Rattle.dwc_base.specs.declared.records.OutputFor.TheVariants.{Default, Debugger}
+use Rattle.dwc_base.specs.declared.constants.TheConstants.{DW_AT_containing_type, DW_AT_vtable_elem_location, DW_TAG_compile_unit, DW_TAG_ptr_to_member_type}
 use Rattle.dwc_base.specs.Sections.{Sections, Fault}
 use Rattle.dwc_base.specs.Units.{UnitHeader}
 use Rattle.dwc_dwarf.specs.Values.{Value, expression, location_reference, location_index}
@@ -12,7 +15,7 @@ use Rattle.dwc_rules.specs.Drafts.{DraftValue, done}
 use Rattle.dwc_dwarf.specs.Lists.{list_source, ListRefusal}
 use Rattle.dwc_dwarf.specs.Lists as Lists
 use Rattle.dwc_rules.specs.RangeKept as RangeKept
-use Rattle.dwc_rules.specs.RangeAttributes.{range_attributes}
+use Rattle.dwc_rules.specs.RangeAttributes.{range_attributes, with_base}
 use Rattle.dwc_rules.specs.RangeRefusals.{subprogram_faults, bound_refusal}
 use Rattle.dwc_rules.specs.RangeRules.{code_becomes, told_as}
 use Rattle.dwc_native.specs.BuiltExpressions.{BuildRefusal, bad_label_range, without_memory, jump_too_large}
@@ -67,19 +70,26 @@ bound_value_refused c e before name v = option_map of_list (bound_refusal (lists
 
 -- what the wrappers of a unit are made with
 abbrev pub wrappers_of : ExpressionSource → WrapperSource
-wrappers_of c = record { texts = texts_of_unit c.sections c.header; entries = c.entries; resolve_memory = c.told.names.resolve_memory; wasm_pointer = place_of_wasm_pointer c.told.memory }
+wrappers_of c = record { output = c.told.output; texts = texts_of_unit c.sections c.header; entries = c.entries; resolve_memory = c.told.names.resolve_memory; wasm_pointer = place_of_wasm_pointer c.told.memory }
 
 -- What is refused of a kept entry behind its attributes: the name of its wrapper, or the place of the context.
 abbrev pub refused_behind : ExpressionSource → Placed → List Refusal
 refused_behind c e = map of_place (wrapper_refusals (wrappers_of c) e) ++ map (of_build c.told.place) (location_refusals (context_over c e))
 
+-- What leads a debugger to take a wrapper for a pointer goes for it: the type that virtual functions are found by, but not the class of a
+-- pointer to a member; and the place of a virtual function.
+abbrev pub is_gone : OutputFor → Entry → ℕ → Bool
+is_gone Default e name = false
+is_gone Debugger e name = ((name == DW_AT_containing_type) && not (e.tag == DW_TAG_ptr_to_member_type)) || (name == DW_AT_vtable_elem_location)
+
 -- The rules for the code of a unit's entries, of which the module has some.
 abbrev pub rules_of_source : ExpressionSource → CodeRules Refusal
 rules_of_source c = record {
   of_fault = of_place;
-  bounds = λ e. map (λ a. (a.0, done a.1)) (range_attributes (lists_of c) c.functions e.entry);
+  bounds = λ e. map (λ a. (a.0, done a.1)) (with_base c.told.output (e.entry.tag == DW_TAG_compile_unit) (range_attributes (lists_of c) c.functions e.entry));
   refused_bound = λ e before a. bound_value_refused c e before a.0 a.1;
   other = λ e before a. code_value_becomes c e before a.0 a.1;
+  goes = λ e name. is_gone c.told.output e.entry name;
   behind = λ e. refused_behind c e;
 }
 

@@ -61,7 +61,7 @@ given_expression c e before bytes = record { fault = unreadable Expression Info 
 
 -- What it becomes under a name; of an entry that is wrapped it is read, and nothing becomes of it.
 unfoldable pub expression_becomes : ExpressionSource → Placed → List (ℕ × Value) → ℕ → List ℕ → Result (Option DraftValue) LocationRefusal
-expression_becomes c e before name bytes = elim (is_wrapped e) [
+expression_becomes c e before name bytes = elim (is_wrapped c.told.output e) [
   | true ↦ (read_expression name (in_force_at c e) (given_expression c e before bytes) >>= λ read. Ok None)
   | false ↦ (value_of_expression name (in_force_at c e) (given_expression c e before bytes) >>= λ v. Ok (drafted v))
 ]
@@ -86,7 +86,7 @@ listed_by c e v = all_items (locations_of_value (lists_of c) e.entry.offset v) >
 
 -- what becomes of the intervals of a list
 abbrev pub listed_become : ExpressionSource → Placed → List ListedExpression → Result (Option DraftValue) LocationRefusal
-listed_become c e xs = elim (is_wrapped e) [
+listed_become c e xs = elim (is_wrapped c.told.output e) [
   | true ↦ (read_locations (in_force_at c e) xs >>= λ read. Ok None)
   | false ↦ (value_of_locations (in_force_at c e) xs >>= λ value. Ok (drafted value))
 ]

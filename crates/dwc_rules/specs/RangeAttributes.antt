@@ -1,8 +1,10 @@
 -- The code that an entry has, and the attributes that say so in the output. (DWARF 4 and 5, section 2.17; this project's
 -- own rules.)
-use Rattle.std.specs.Prelude.{ℕ, ◌==◌, Bool, ℤ, pos, ◌-ℤ◌, nat_abs, List, [], ◌∷◌, if◌then◌else◌, Option, Some, None, option_map, option_and_then, Result, Ok}
+use Rattle.std.specs.Prelude.{ℕ, ◌==◌, Bool, ℤ, pos, ◌-ℤ◌, nat_abs, List, [], ◌∷◌, ◌++◌, Bool, true, if◌then◌else◌, Option, Some, None, option_map, option_and_then, Result, Ok}
 use Rattle.std.specs.Option.{option_or, unwrap_or}
 use Rattle.std.specs.List.{filter_map, flat_map, list_any}
+use Rattle.dwc_base.specs.declared.records.OutputFor.{OutputFor}
+use Rattle.dwc_base.specs.declared.records.OutputFor.TheVariants.{Debugger}
 use Rattle.dwc_base.specs.declared.records.Address.{Address}
 use Rattle.dwc_base.specs.declared.records.Address.TheVariants.{Constant, Symbol}
 use Rattle.dwc_dwarf.specs.Values.{Value, constant}
@@ -116,6 +118,16 @@ said_extent fs tag (position a) = (DW_AT_low_pc, if tag == DW_TAG_compile_unit t
 -- function whole.
 unfoldable pub range_attributes : ListSource → List Function → Entry → List (ℕ × TreeValue)
 range_attributes s fs e = elim (begun_function s fs e) [ Some f ↦ bounds (Symbol f.number (pos 0)) f.length | None ↦ said_extent fs e.tag (extent s e) ]
+
+-- what the list of a root counts from for a debugger, to whom it has no base by itself
+abbrev pub list_base : OutputFor → Bool → List (ℕ × TreeValue)
+list_base Debugger true = (DW_AT_low_pc, address_of_tree (Constant 0)) ∷ []
+list_base _ _ = []
+
+-- The attributes that say where the code of an entry is, which may be a root; for a debugger with a base in front of its list.
+abbrev pub with_base : OutputFor → Bool → List (ℕ × TreeValue) → List (ℕ × TreeValue)
+with_base output is_root ((name, ranges is) ∷ others) = list_base output is_root ++ (name, ranges is) ∷ others
+with_base output is_root others = others
 
 -- the function with a symbol that a subprogram of a carried unit begins in
 abbrev pub begun_in_unit : CarriedUnit → Entry → Option Function

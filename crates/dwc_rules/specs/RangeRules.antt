@@ -1,5 +1,5 @@
 -- What the attributes of a kept entry become that speak of code, but for expressions and location lists. (This project's own rules.)
-use Rattle.std.specs.Prelude.{ℕ, List, [], map, Option, Some, None, option_map, Result, Ok, Err}
+use Rattle.std.specs.Prelude.{ℕ, List, [], map, false, Option, Some, None, option_map, Result, Ok, Err}
 use Rattle.dwc_base.specs.declared.faults.What.TheVariants.{AddressValue}
 use Rattle.dwc_base.specs.declared.section_name.SectionName.TheVariants.{Info}
 use Rattle.dwc_base.specs.Listing.{Listing}
@@ -49,5 +49,6 @@ range_rules told s fs = record {
   bounds = λ e. map (λ a. (a.0, done a.1)) (range_attributes s fs e.entry);
   refused_bound = λ e before a. option_map told (bound_refusal s fs e.entry before a);
   other = λ e before a. told_as told (code_becomes s fs e.entry.offset a.1);
+  goes = λ e name. false;
   behind = λ e. [];
 }

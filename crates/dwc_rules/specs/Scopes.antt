@@ -2,6 +2,7 @@
 -- (DWARF 4 and 5, sections 2.6 and 3.3.5; this project's own rules.)
 use Rattle.std.specs.Prelude.{◌≡◌, ℕ, zero, suc, ◌≤◌, ◌==◌, ℤ, pos, ◌<ℤ◌, int_le, List, [], ◌∷◌, drop, reverse, ◌&&◌, ◌||◌, if◌then◌else◌, Option, Some, None, option_map, option_and_then, is_some, All, Bool, Contains, slice_get}
 use Rattle.std.specs.List.{filter, filter_map}
+use Rattle.dwc_base.specs.declared.records.OutputFor.TheVariants.{Default, Debugger}
 use Rattle.dwc_dwarf.specs.Values.{Value, expression}
 use Rattle.dwc_dwarf.specs.Entries.{Entry, attribute}
 use Rattle.dwc_native.specs.Functions.{Function}
@@ -37,9 +38,13 @@ scope_of_extent (intervals is) = filter_map wasm_interval is
 scope_of_extent (position a) = []
 scope_of_extent nowhere = []
 
+-- where the source range of a function ends; for a debugger, to whom the end is left out, behind its last source
+abbrev pub source_end : Function → ℕ
+source_end f = elim f.output [ Default ↦ f.end | Debugger ↦ suc f.end ]
+
 -- the source range of a function
 abbrev pub source_range : Function → List (ℕ × ℕ)
-source_range f = (f.start, f.end) ∷ []
+source_range f = (f.start, source_end f) ∷ []
 
 -- The scope that an entry gives: a subprogram that begins in a function with a symbol, that function's source range; an
 -- entry of another tag with a high_pc or ranges, its intervals, which may be none.

@@ -1,13 +1,14 @@
 -- What it means that an output carries the scopes of an input: its entries cover the native code whose source is in
 -- theirs. (A law on the definitions of translation.)
-use Rattle.std.specs.Prelude.{◌≡◌, ◌≢◌, ℕ, ◌<◌, ◌≤◌, ◌==◌, ◌+◌, pos, ◌+ℤ◌, int_le, int_lt, List, [], ◌∷◌, Bool, true, false, ◌&&◌, ◌||◌, nat_le, if◌then◌else◌, Option, Some, None, option_map, option_and_then, is_some, AllPairs, Contains, All}
+use Rattle.std.specs.Prelude.{◌≡◌, ◌≢◌, ℕ, ◌<◌, ◌≤◌, ◌==◌, ◌+◌, pos, ◌+ℤ◌, int_le, int_lt, List, [], ◌∷◌, Bool, true, false, ◌&&◌, nat_le, if◌then◌else◌, Option, Some, None, option_map, option_and_then, is_some, AllPairs, Contains, All}
 use Rattle.std.specs.Option.{option_or}
 use Rattle.std.specs.List.{filter, filter_map, find, list_any, AllZip}
+use Rattle.dwc_base.specs.declared.records.OutputFor.{OutputFor}
 use Rattle.dwc_base.specs.declared.records.Address.{Address}
 use Rattle.dwc_base.specs.declared.records.Address.TheVariants.{Constant, Symbol}
 use Rattle.dwc_dwarf.specs.Entries.{Entry}
 use Rattle.dwc_native.specs.Functions.{Function, function_at, recorded_sources}
-use Rattle.dwc_base.specs.declared.constants.TheConstants.{DW_AT_high_pc, DW_AT_low_pc, DW_AT_ranges, DW_TAG_pointer_type, DW_TAG_reference_type}
+use Rattle.dwc_base.specs.declared.constants.TheConstants.{DW_AT_high_pc, DW_AT_low_pc, DW_AT_ranges}
 use Rattle.dwc_rules.specs.Carried.{CarriedUnit, WantedUnit, synthetic_unit, carried_unit, unit_of_simulated}
 use Rattle.dwc_dwarf.specs.Trees.{Interval, TreeValue, address, constant, ranges, TreeEntry, Tree}
 use Rattle.dwc_rules.specs.Drafts.{itself, Draft}
@@ -15,6 +16,8 @@ use Rattle.dwc_rules.specs.DraftForests.{is_made_of}
 use Rattle.dwc_dwarf.specs.RawLists.{ListSource}
 use Rattle.dwc_dwarf.specs.Lists.{list_source}
 use Rattle.dwc_native.specs.Runs.{HasGoodMap}
+use Rattle.dwc_rules.specs.Kept.{Placed}
+use Rattle.dwc_rules.specs.Wrappers.{is_wrapped}
 use Rattle.dwc_rules.specs.RangeAttributes.{begun_function, Extent, intervals, position, nowhere, extent}
 use Rattle.dwc_rules.specs.Scopes.{scope_of_extent}
 use Rattle.dwc_native.specs.ScopesKept.{KeepsScope}
@@ -56,19 +59,19 @@ scope_of_intervals nowhere = None
 
 -- The intervals of an entry whose scope is to be kept; a wrapped pointer or reference has none, nor has a subprogram that
 -- begins in a function with a symbol, which is that function whole.
-abbrev pub scope_to_keep : ListSource → List Function → Entry → Option (List (ℕ × ℕ))
-scope_to_keep s fs e =
-    if (e.tag == DW_TAG_pointer_type) || (e.tag == DW_TAG_reference_type) then None
-    else (elim (begun_function s fs e) [ Some f ↦ None | None ↦ scope_of_intervals (extent s e) ])
+abbrev pub scope_to_keep : OutputFor → ListSource → List Function → Placed → Option (List (ℕ × ℕ))
+scope_to_keep output s fs e =
+    if is_wrapped output e then None
+    else (elim (begun_function s fs e.entry) [ Some f ↦ None | None ↦ scope_of_intervals (extent s e.entry) ])
 
 -- an entry of an output carries the scope of an entry of an input
-abbrev pub CarriesScope : ListSource → List Function → Entry → TreeEntry → Type 0
-CarriesScope s fs e out = (scope : List (ℕ × ℕ)) → scope_to_keep s fs e ≡ Some scope → KeepsScope fs scope (covered_intervals out)
+abbrev pub CarriesScope : OutputFor → ListSource → List Function → Placed → TreeEntry → Type 0
+CarriesScope output s fs e out = (scope : List (ℕ × ℕ)) → scope_to_keep output s fs e ≡ Some scope → KeepsScope fs scope (covered_intervals out)
 
 -- The entries of a unit of an output, drafted one by one, carry the scopes of the entries of a unit that they were made of.
 abbrev pub UnitCarriesScopes : (CarriedUnit → List Draft) → CarriedUnit → Tree → Type 0
 UnitCarriesScopes drafted u tree =
-    AllZip (λ d out. (e : Entry) → Contains u.unit.entries e → is_made_of e.offset itself d ≡ true → CarriesScope (list_source u.module_of.sections u.unit.header) u.module_of.functions e out) (drafted u) tree
+    AllZip (λ d out. (e : Entry) → Contains u.unit.entries e → is_made_of e.offset itself d ≡ true → CarriesScope u.module_of.told.output (list_source u.module_of.sections u.unit.header) u.module_of.functions (record { unit = u.unit.header.offset; entry = e }) out) (drafted u) tree
 
 -- a module's synthetic unit has none, nor has the simulated one
 abbrev pub UnitHasScopes : (CarriedUnit → List Draft) → WantedUnit → Tree → Type 0

@@ -3,7 +3,9 @@
 -- DWARF 4 and 5, chapter 5.)
 use Rattle.std.specs.Prelude.{◌≡◌, ℕ, suc, ◌<◌, ◌≤◌, ◌==◌, All, List, [], ◌∷◌, ◌++◌, Bool, true, false, nat_lt, ◌||◌, if◌then◌else◌, Some, option_map, option_to_list, Result, Ok, Err, codes}
 use Rattle.std.specs.List.{take_while}
-use Rattle.dwc_base.specs.declared.constants.TheConstants.{DW_AT_artificial, DW_AT_byte_size, DW_AT_data_member_location, DW_AT_linkage_name, DW_AT_name, DW_AT_type, DW_TAG_formal_parameter, DW_TAG_member, DW_TAG_pointer_type, DW_TAG_reference_type, DW_TAG_structure_type, DW_TAG_subprogram, DW_TAG_template_type_parameter}
+use Rattle.dwc_base.specs.declared.records.OutputFor.{OutputFor}
+use Rattle.dwc_base.specs.declared.records.OutputFor.TheVariants.{Default, Debugger}
+use Rattle.dwc_base.specs.declared.constants.TheConstants.{DW_AT_artificial, DW_AT_byte_size, DW_AT_data_member_location, DW_AT_linkage_name, DW_AT_name, DW_AT_type, DW_TAG_formal_parameter, DW_TAG_member, DW_TAG_pointer_type, DW_TAG_reference_type, DW_TAG_rvalue_reference_type, DW_TAG_structure_type, DW_TAG_subprogram, DW_TAG_template_type_parameter}
 use Rattle.dwc_base.specs.Sections.{Fault}
 use Rattle.dwc_rules.specs.Kept.{Placed}
 use Rattle.dwc_dwarf.specs.Texts.{TextSource}
@@ -15,14 +17,20 @@ use Rattle.dwc_rules.specs.MadeEntries.{named, data1, made}
 -- What wrappers are made with: the texts of their unit, the entries of its section, the name of the function that makes a native
 -- pointer of an address, and the place of the type of an address in the module's synthetic unit.
 pub record WrapperSource : Type 0 where
+  pub output : OutputFor
   pub texts : TextSource
   pub entries : List Placed
   pub resolve_memory : List ℕ
   pub wasm_pointer : ℕ
 
--- pointers and references are wrapped
-abbrev pub is_wrapped : Placed → Bool
-is_wrapped e = (e.entry.tag == DW_TAG_pointer_type) || (e.entry.tag == DW_TAG_reference_type)
+-- whether a tag is that of rvalue references, and the output for a debugger
+abbrev pub is_wrapped_too : OutputFor → ℕ → Bool
+is_wrapped_too Default tag = false
+is_wrapped_too Debugger tag = tag == DW_TAG_rvalue_reference_type
+
+-- pointers and references are wrapped, for a debugger rvalue references too
+abbrev pub is_wrapped : OutputFor → Placed → Bool
+is_wrapped output e = (e.entry.tag == DW_TAG_pointer_type) || (e.entry.tag == DW_TAG_reference_type) || is_wrapped_too output e.entry.tag
 
 -- ---- names
 
@@ -42,7 +50,7 @@ name_fault (Err fault) = fault ∷ []
 
 -- What is refused of a wrapper: a name that cannot be read. It is read behind the attributes of the wrapped entry.
 unfoldable pub wrapper_refusals : WrapperSource → Placed → List Fault
-wrapper_refusals s e = elim (is_wrapped e) [ true ↦ name_fault (type_name s.texts s.entries e) | false ↦ [] ]
+wrapper_refusals s e = elim (is_wrapped s.output e) [ true ↦ name_fault (type_name s.texts s.entries e) | false ↦ [] ]
 
 -- ---- the four entries
 
@@ -101,7 +109,7 @@ with_wrapper s e ds = wrapper s e ++ (inner e.entry.depth ds ++ (wrapper_types s
 -- What the kept entries of a unit become, in file order: pointers and references are wrapped, and all others are made by `clone`.
 unfoldable pub entries_made : WrapperSource → (Placed → List Draft) → List Placed → List Draft
 entries_made s clone [] = []
-entries_made s clone (e ∷ es) = elim (is_wrapped e) [ true ↦ with_wrapper s e (entries_made s clone es) | false ↦ clone e ++ entries_made s clone es ]
+entries_made s clone (e ∷ es) = elim (is_wrapped s.output e) [ true ↦ with_wrapper s e (entries_made s clone es) | false ↦ clone e ++ entries_made s clone es ]
 
 -- ---- wrappers that are open
 
@@ -121,10 +129,10 @@ left_open depth (e ∷ stack) = if nat_lt e.entry.depth depth then e ∷ stack e
 
 -- what an entry becomes in front of what lies in it, and those that are open behind it
 abbrev pub made_itself : WrapperSource → (Placed → List Draft) → Placed → List Draft
-made_itself s clone e = if is_wrapped e then wrapper s e else clone e
+made_itself s clone e = if is_wrapped s.output e then wrapper s e else clone e
 
-abbrev pub open_behind : Placed → List Placed → List Placed
-open_behind e stack = if is_wrapped e then e ∷ stack else stack
+abbrev pub open_behind : OutputFor → Placed → List Placed → List Placed
+open_behind output e stack = if is_wrapped output e then e ∷ stack else stack
 
 -- a depth lies below the innermost of those that are open
 abbrev pub IsBelowOpen : List Placed → ℕ → Type 0
