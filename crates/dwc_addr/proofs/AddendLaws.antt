@@ -47,7 +47,7 @@ entries-inside f a h = go (nat_le f.end a)
     go false = found-inside a 0 f.length (has_offset a) (runs f) (good-runs f h)
 
 offset-inside : (f : Function) (a : ℕ) → HasGoodMap f → native_offset f a ≤ f.length
-offset-inside f a good = subst (λ (g : Function). native_offset g a ≤ g.length) (sym good.made) (entries-inside (function_of good.code_offset f.number good.address_map) a (good-to good.code_offset good.address_map good.good))
+offset-inside f a good = subst (λ (g : Function). native_offset g a ≤ g.length) (sym good.made) (entries-inside (function_of f.output good.code_offset f.number good.address_map) a (good-to good.code_offset good.address_map good.good))
 
 -- ---- a function that an address is in has a symbol
 

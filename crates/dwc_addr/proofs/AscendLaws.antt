@@ -1,16 +1,20 @@
 -- What an interval is translated to ascends in the function that it begins in, where the address maps of the functions are good.
-use Rattle.std.proofs.Common.{◌≡◌, ℕ, ◌≤◌, refl, sym, subst, arith, List, [], ◌∷◌, map, Option, Some, None, inl, inr}
+use Rattle.std.proofs.Common.{◌≡◌, ℕ, suc, ◌≤◌, refl, sym, subst, arith, List, [], ◌∷◌, map, Option, Some, None, inl, inr}
 use Rattle.std.specs.Prelude.{◌⊎◌, ◌==◌, nat_lt, if◌then◌else◌, option_map, Bool, true, false}
 use Rattle.std.specs.Option.{option_or, unwrap_or}
 use Rattle.std.specs.List.{AllByRecursion, filter, find}
 use Rattle.std.proofs.lemmas.Bool.{ltb-true, ltb-false}
 use Rattle.dwc_base.specs.declared.records.MapFault.{MapFault}
+use Rattle.dwc_base.specs.declared.records.OutputFor.{OutputFor}
+use Rattle.dwc_base.specs.declared.records.OutputFor.TheVariants.{Default, Debugger}
 use Rattle.dwc_base.specs.declared.records.MapFault.TheVariants.{CodeFalls, CodePastBody, SourceOutside}
 use Rattle.dwc_native.specs.Functions.{AddressMap, Function, map_fault, entry_fault, is_source_within, function_of, function_at, wasm_entry}
 use Rattle.dwc_base.specs.Wasm.{last_of}
-use Rattle.dwc_native.specs.Runs.{Position, Run, native_end, source_positions, in_front, pieces, has_code, joined, joined_positions, first_native, runs_from, runs, start_in, end_in, meets, is_range, native_ranges, native_in_function, as_intervals, native, Ascend, AscendInOne, HasGoodMap, TranslationsAscend}
+use Rattle.dwc_native.specs.ShownSources.{exact_ranges, Apart}
+use Rattle.dwc_native.specs.Runs.{Position, Run, native_end, source_positions, in_front, pieces, has_code, joined, joined_positions, first_native, runs_from, runs, start_in, end_in, meets, is_range, closed_ranges, native_ranges, native_in_function, as_intervals, native, Ascend, AscendInOne, HasGoodMap, TranslationsAscend}
 use Rattle.dwc_addr.proofs.EntryLaws.{good-so}
 use Rattle.dwc_addr.proofs.OwnerLaws.{function_at-among}
+use Rattle.dwc_addr.proofs.ShownLaws.{maximal}
 
 -- ---- positions
 
@@ -217,17 +221,29 @@ pub good-runs : (f : Function) → EntriesTo 0 f.length f.entries → RunSpan 0 
 unfolding runs
 good-runs f h = runs-span f f.start 0 (pieces (source_positions f.length f.entries)) (omega arith) (pieces-spans 0 f.length (source_positions f.length f.entries) (positions-span 0 f.length f.entries h))
 
-entries-ascend : (f : Function) (start end : ℕ) → EntriesTo 0 f.length f.entries → Ascend 0 f.length (native_ranges f start end)
-unfolding native_ranges
-entries-ascend f start end h = go (nat_lt start end)
+closed-ascend : (f : Function) (start end : ℕ) → EntriesTo 0 f.length f.entries → Ascend 0 f.length (closed_ranges f start end)
+closed-ascend f start end h = go (nat_lt start end)
   where
     go : (b : Bool) → Ascend 0 f.length (if b then filter is_range (map (λ r. (start_in start r, end_in end r)) (filter (meets start end) (runs f))) else [])
     go true = ranges-ascend start end 0 f.length (runs f) (good-runs f h)
     go false = omega arith
 
+-- ranges that do not touch ascend
+apart-ascend : (low from to : ℕ) (rs : List (ℕ × ℕ)) → low ≤ from → low ≤ to → Apart from to rs → Ascend low to rs
+apart-ascend low from to [] before within h = within
+apart-ascend low from to (r ∷ rs) before within h = (omega (arith, before, h.0), h.1, apart-ascend r.1 (suc r.1) to rs (omega arith) h.2 h.3)
+
+entries-ascend : (f : Function) (start end : ℕ) → EntriesTo 0 f.length f.entries → Ascend 0 f.length (native_ranges f start end)
+unfolding native_ranges
+entries-ascend f start end h = go f.output
+  where
+    go : (output : OutputFor) → Ascend 0 f.length (elim output [ Default ↦ closed_ranges f start end | Debugger ↦ exact_ranges f start end ])
+    go Default = closed-ascend f start end h
+    go Debugger = apart-ascend 0 0 f.length (exact_ranges f start end) (omega arith) (omega arith) (maximal f start end)
+
 -- The native ranges of an interval in a function whose map is good ascend in it.
 pub ranges-ascend_in : (f : Function) (start end : ℕ) → HasGoodMap f → Ascend 0 f.length (native_ranges f start end)
-ranges-ascend_in f start end good = subst (λ (g : Function). Ascend 0 g.length (native_ranges g start end)) (sym good.made) (entries-ascend (function_of good.code_offset f.number good.address_map) start end (good-to good.code_offset good.address_map good.good))
+ranges-ascend_in f start end good = subst (λ (g : Function). Ascend 0 g.length (native_ranges g start end)) (sym good.made) (entries-ascend (function_of f.output good.code_offset f.number good.address_map) start end (good-to good.code_offset good.address_map good.good))
 
 -- What an interval is translated to is empty, or ascends in the function that it begins in.
 pub translations-ascend : (fs : List Function) → TranslationsAscend fs

@@ -7,6 +7,7 @@ use Rattle.std.proofs.lemmas.Bool.{leb-true, leb-false, le-leb, lt-leb, cases_lt
 use Rattle.std.proofs.lemmas.List.Elements.{All-get_or, All-from_get_or, Contains-get_or, at_from_Contains}
 use Rattle.std.proofs.lemmas.List.Sorted.{All-permutation, Contains-permutation}
 use Rattle.std.proofs.lemmas.Nat.{shr_high, mod_low}
+use Rattle.dwc_base.specs.declared.records.OutputFor.TheVariants.{Default}
 use Rattle.dwc_native.specs.Functions.{Function}
 use Rattle.dwc_addr.specs.PositionPlaces.{IsCountUpTo}
 use Rattle.dwc_addr.specs.Starts.{start_key, start_keys, IsStartTable, IsOwnerPlace}
@@ -47,7 +48,7 @@ key-held fs keys k d t h =
 
 -- what stands past the end of a list
 no_function : Function
-no_function = record { number = 0; symbol = None; start = 0; end = 0; length = 0; entries = [] }
+no_function = record { output = Default; number = 0; symbol = None; start = 0; end = 0; length = 0; entries = [] }
 
 -- the halves of a key
 start_of_key : (start place : ℕ) → place < 2 ^ 32 → start_key start place / 2 ^ 32 ≡ start

@@ -7,11 +7,14 @@ use Rattle.std.proofs.lemmas.List.{drop-drop, drop_all}
 use Rattle.std.proofs.lemmas.Bool.{le-leb, lt-leb, lt-ltb, le-ltb}
 use Rattle.dwc_base.specs.declared.records.Address.{Address}
 use Rattle.dwc_base.specs.declared.records.Address.TheVariants.{Symbol}
+use Rattle.dwc_base.specs.declared.records.OutputFor.{OutputFor}
+use Rattle.dwc_base.specs.declared.records.OutputFor.TheVariants.{Default, Debugger}
 use Rattle.dwc_native.specs.Functions.{Function, function_at}
-use Rattle.dwc_native.specs.Runs.{Run, runs, has_offset, start_in, end_in, meets, is_range, native_ranges, native_in_function, native_offset, translated}
+use Rattle.dwc_native.specs.ShownSources.{exact_ranges}
+use Rattle.dwc_native.specs.Runs.{Run, runs, has_offset, start_in, end_in, meets, is_range, closed_ranges, native_ranges, native_in_function, native_offset, translated}
 use Rattle.dwc_addr.specs.declared.function_map.FunctionMap.{FunctionMap}
 use Rattle.dwc_addr.specs.Transforms.{function_view}
-use Rattle.dwc_addr.specs.Translations.{range_in, ranges_from}
+use Rattle.dwc_addr.specs.Translations.{range_in, ranges_from, shown_from, ranges_to_come}
 use Rattle.dwc_addr.proofs.RunLaws.{runs-past}
 
 module _ (f : Function) (a : ℕ) where
@@ -72,13 +75,28 @@ picked start end (r ∷ rs) = go (meets start end r) (picked start end rs)
     go false same = same
     go true same = one (is_range (start_in start r, end_in end r)) (start_in start r, end_in end r) _ _ same
 
-pub ranges-all : (m : FunctionMap) (start end : ℕ) → start < end → ranges_from m start end 0 ≡ native_ranges (function_view m) start end
-unfolding native_ranges
+pub ranges-all : (m : FunctionMap) (start end : ℕ) → start < end → ranges_from m start end 0 ≡ closed_ranges (function_view m) start end
 ranges-all m start end less = rw (lt-ltb start end less) (sym (picked start end (runs (function_view m))))
 
-pub ranges-nothing : (m : FunctionMap) (start end : ℕ) → end ≤ start → [] ≡ native_ranges (function_view m) start end
-unfolding native_ranges
+pub ranges-nothing : (m : FunctionMap) (start end : ℕ) → end ≤ start → [] ≡ closed_ranges (function_view m) start end
 ranges-nothing m start end le = rw (le-ltb start end le) refl
+
+-- ---- by whom they are for
+
+module _ (m : FunctionMap) (start end : ℕ) where
+  pub default-come : (number : ℕ) → m.output_for ≡ Default → ranges_to_come m start end number ≡ ranges_from m start end number
+  default-come number is = ap (λ (o : OutputFor). elim o [ Default ↦ ranges_from m start end number | Debugger ↦ shown_from m start end number ]) is
+
+  pub debugger-come : (number : ℕ) → m.output_for ≡ Debugger → ranges_to_come m start end number ≡ shown_from m start end number
+  debugger-come number is = ap (λ (o : OutputFor). elim o [ Default ↦ ranges_from m start end number | Debugger ↦ shown_from m start end number ]) is
+
+  pub default-native : m.output_for ≡ Default → native_ranges (function_view m) start end ≡ closed_ranges (function_view m) start end
+  unfolding native_ranges
+  default-native is = ap (λ (o : OutputFor). elim o [ Default ↦ closed_ranges (function_view m) start end | Debugger ↦ exact_ranges (function_view m) start end ]) is
+
+  pub debugger-native : m.output_for ≡ Debugger → native_ranges (function_view m) start end ≡ exact_ranges (function_view m) start end
+  unfolding native_ranges
+  debugger-native is = ap (λ (o : OutputFor). elim o [ Default ↦ closed_ranges (function_view m) start end | Debugger ↦ exact_ranges (function_view m) start end ]) is
 
 module _ (fs : List Function) (start end : ℕ) where
   pub raw-none : None ≡ function_at fs start → None ≡ native_in_function fs start end

@@ -8,6 +8,7 @@ pub mod RunViews
 pub mod Runs
 pub mod Sources
 pub mod Starts
+pub mod Stretches
 pub mod SymbolIndexes
 pub mod Transforms
 pub mod Translations

@@ -2,6 +2,7 @@
 use Rattle.std.specs.Prelude.{◌≡◌, ℕ, suc, ◌+◌, ◌-◌, ◌%◌, ◌^◌, List, [], ◌∷◌, map, Option, Some, None, option_map, Result, Ok, Err}
 use Rattle.std.specs.Option.{unwrap_or, option_or}
 use Rattle.dwc_base.specs.declared.records.MapFault.{MapFault}
+use Rattle.dwc_base.specs.declared.records.OutputFor.{OutputFor}
 use Rattle.dwc_native.specs.Functions.{AddressMap, Function, map_fault, functions_of}
 use Rattle.dwc_addr.specs.declared.function_map.FunctionMap.{FunctionMap}
 use Rattle.dwc_compiled.specs.Gaps.{merged}
@@ -21,6 +22,7 @@ first_bad_map code_offset place (m ∷ ms) = option_or (option_map (λ why. (pla
 -- a function as it is kept
 abbrev pub function_view : FunctionMap → Function
 function_view f = record {
+  output = f.output_for;
   number = unwrap_or f.symbol 0;
   symbol = f.symbol;
   start = f.wasm_start;
@@ -29,9 +31,9 @@ function_view f = record {
   entries = merged f.gaps.now 0 (map recorded_view f.addresses);
 }
 
--- No map is bad and the functions, seen by `view`, are those of the maps; or the first bad map is named; or memory was
+-- No map is bad and the functions, seen by `view`, are those of the maps, for some output; or the first bad map is named; or memory was
 -- wanting.
-abbrev pub Transforms : {A : Type 0} → (A → List Function) → ℕ → ℕ → ℕ → List AddressMap → Result A AddrError → Type 0
-Transforms view m code_offset first maps (Ok t) = (first_bad_map code_offset 0 maps ≡ None) × (view t ≡ functions_of code_offset first maps)
-Transforms view m code_offset first maps (Err (BadAddressMap n func why)) = (n ≡ m) × (first_bad_map code_offset 0 maps ≡ Some (func, why))
-Transforms view m code_offset first maps (Err OutOfMemory) = Unit {0}
+abbrev pub Transforms : {A : Type 0} → (A → List Function) → ℕ → OutputFor → ℕ → ℕ → List AddressMap → Result A AddrError → Type 0
+Transforms view m output code_offset first maps (Ok t) = (first_bad_map code_offset 0 maps ≡ None) × (view t ≡ functions_of output code_offset first maps)
+Transforms view m output code_offset first maps (Err (BadAddressMap n func why)) = (n ≡ m) × (first_bad_map code_offset 0 maps ≡ Some (func, why))
+Transforms view m output code_offset first maps (Err OutOfMemory) = Unit {0}

@@ -4,15 +4,21 @@ ghost use Rattle.std.specs.List.Sorted.{IsNonDecreasingBy};
 ghost use Rattle.dwc_compiled.specs.Gaps.{merged};
 ghost use Rattle.dwc_addr.specs.Runs.{recorded_view, run_starts};
 ghost use Rattle.dwc_addr.specs.RunBounds.{wasm_begin, wasm_end as wasm_end_of, AreRunBounds, AreBlockBounds};
+ghost use Rattle.dwc_addr.specs.Stretches.{AreStretches, AreTables};
+ghost use Rattle.dwc_base.specs.declared.records.OutputFor.TheVariants.{Debugger};
 
 use crate::address_map::{GeneratedAddress, WasmAddress};
 use crate::bounds::Bounds;
 use crate::sources::Sources;
+use crate::stretch::{SourceTable, Stretch};
+use dwc_base::OutputFor;
 use dwc_compiled::Gap;
 
 /// A defined function, with the entries of its address map as they stand there.
 #[derive(Drop)]
 pub struct FunctionMap<'a> {
+    /// Whom intervals of its code are translated for.
+    pub output_for: OutputFor,
     /// Its number among the functions of all modules, where it has a symbol.
     pub symbol: Option<usize>,
     /// Where its code begins in its body: at 0.
@@ -42,11 +48,16 @@ pub struct FunctionMap<'a> {
     pub(crate) source_hints: Vec<u32>,
     // About how many gaps stand in front of each block of sources, where it has more than a few.
     pub(crate) gap_hints: Vec<u32>,
+    // For a debugger the stretches of its native code along which one source is shown, in order, and tables of their sources by blocks
+    // of ever more stretches.
+    pub(crate) stretches: Vec<Stretch>,
+    pub(crate) tables: Vec<SourceTable>,
     ghost few_bits: { block_bits ≤ 32 },
     ghost counted: { length addresses < 2 ^ 63 },
     ghost begins: { offset ≡ 0 },
     ghost short: { len < 2 ^ 32 },
     ghost starts_low: { wasm_start < 2 ^ 32 },
+    ghost ends_low: { wasm_end < 2 ^ 32 },
     // The code offsets of all entries do not fall, nor do the places of those without a source.
     ghost rises: { IsNonDecreasingBy (λ e. e.0) (merged gaps.now 0 (map recorded_view addresses)) },
     ghost apart: { IsNonDecreasingBy (λ g. g.before) gaps.now },
@@ -54,4 +65,7 @@ pub struct FunctionMap<'a> {
     ghost blocks_bounded: { AreBlockBounds run_bounds.items block_bounds.items },
     ghost outer_bounded: { AreBlockBounds block_bounds.items outer_bounds.items },
     ghost split: { later_runs.items ≡ run_starts 0 0 (map recorded_view addresses) },
+    ghost shown: { output_for ≡ Debugger → AreStretches wasm_start len (map recorded_view addresses) stretches.items },
+    ghost few: { length stretches.items < 2 ^ 32 },
+    ghost listed: { AreTables stretches.items tables.items },
 }

@@ -1,5 +1,6 @@
 //! What the definition of translation means.
 ghost use Rattle.std.specs.Prelude.{◌≡◌, ℕ, List, None};
+ghost use Rattle.dwc_base.specs.declared.records.OutputFor.{OutputFor};
 ghost use Rattle.dwc_native.specs.Functions.{AddressMap, Function, functions_of};
 ghost use Rattle.dwc_native.specs.Addends.{HaveAddends, TranslationsAreSaid};
 ghost use Rattle.dwc_native.specs.Runs.{TranslationsAscend, RunsHaveAll};
@@ -26,8 +27,9 @@ pub fn translations_are_said()
 /// Says, and does nothing: what intervals are translated to keeps them as a scope. In a function with a symbol in which no two sources stand
 /// at one native offset, it covers each byte whose source is from the begin of an interval that begins in the function to before that
 /// interval's end, and none whose source is outside all intervals, their ends included. This holds where address maps are good and
-/// functions with a symbol have numbers of their own, and so of the functions of a transform, whose address maps are all good.
+/// functions with a symbol have numbers of their own, and so of the functions of a transform, whose address maps are all good. For a
+/// debugger it covers exactly the bytes at which a source of an interval that begins in the function is shown, its end left out.
 pub fn translations_keep_scopes()
     ensures keep { (fs : List Function) → TranslationsKeepScopes fs }
-    ensures made { (code_offset number : ℕ) (maps : List AddressMap) → first_bad_map code_offset 0 maps ≡ None → AreNumbered (functions_of code_offset number maps) }
+    ensures made { (output : OutputFor) (code_offset number : ℕ) (maps : List AddressMap) → first_bad_map code_offset 0 maps ≡ None → AreNumbered (functions_of output code_offset number maps) }
 {}

@@ -1,10 +1,10 @@
 //! The native ranges of intervals of wasm offsets.
-ghost use Rattle.std.specs.Prelude.{◌≡◌, ◌<◌, ◌^◌, ◌+◌, ◌≤◌, true, [], length, option_map, Some, None, IfSome};
+ghost use Rattle.std.specs.Prelude.{ℕ, ◌≡◌, ◌<◌, ◌^◌, ◌+◌, ◌≤◌, true, [], option_map, Some, None, IfSome};
 ghost use Rattle.std.specs.Iterator.{YieldsFirst};
-ghost use Rattle.dwc_native.specs.Runs.{native_ranges, native_in_function};
+ghost use Rattle.dwc_native.specs.Runs.{native_ranges, closed_ranges, native_in_function};
 ghost use Rattle.dwc_addr.specs.RunViews.{run_view, IsRunOf};
 ghost use Rattle.dwc_addr.specs.Transforms.{function_view};
-ghost use Rattle.dwc_addr.specs.Translations.{range_in as range_of, ranges_from, GivesRange, with_lengths};
+ghost use Rattle.dwc_addr.specs.Translations.{range_in as range_of, ranges_from, ranges_to_come, GivesRange, with_lengths};
 
 use crate::AddressTransform;
 use crate::address_map::{GeneratedAddress, WasmAddress};
@@ -13,7 +13,8 @@ use crate::function_map::FunctionMap;
 use crate::positions::{end_in, start_in};
 use crate::run::Run;
 use crate::runs::{run_at, run_count};
-use dwc_base::Address;
+use crate::shown::shown_range;
+use dwc_base::{Address, OutputFor};
 use std::marker::Model;
 
 /// The native ranges of an interval that are still to come: where each begins and ends in its function, which they are in order of
@@ -23,7 +24,7 @@ pub struct RawRanges<'t> {
     function: Option<&'t FunctionMap<'t>>,
     start: WasmAddress,
     end: WasmAddress,
-    // The number of the next run.
+    // The number of the next run, and for a debugger of the next stretch.
     number: usize,
 }
 
@@ -49,17 +50,17 @@ impl<'t> RawRanges<'t> {
         self.find_range()
     }
 
-    // Whether no run is left: then there is no further range.
+    // Whether no run or stretch is left: then there is no further range.
     fn is_behind(&self) -> bool
         ensures { result ≡ true → self.now ≡ [] }
     {
         match self.function {
-            Some(function) => self.number >= run_count(function),
+            Some(function) => self.number >= last_number(function),
             None => true,
         }
     }
 
-    // The next range, of the runs that are left. It stands apart, so that what callers take in of `next_range` is the test alone.
+    // The next range, of what is left. It stands apart, so that what callers take in of `next_range` is the test alone.
     #[inline(never)]
     fn find_range(&mut self) -> Option<(GeneratedAddress, GeneratedAddress)>
         ensures order { IfSome result (λ range. range.0 < range.1) }
@@ -67,7 +68,7 @@ impl<'t> RawRanges<'t> {
         ensures next { YieldsFirst (λ r. r) self.old result self.new }
     {
         let function = self.function?;
-        let (next, range) = range_behind(function, self.start, self.end, self.number)?;
+        let (next, range) = next_range(function, self.start, self.end, self.number)?;
         self.number = next;
         Some(range)
     }
@@ -125,14 +126,15 @@ impl<'t> Iterator for TranslatedRanges<'t> {
 
 impl AddressTransform<'_> {
     /// The native ranges of an interval, from `start` up to `end`, in the function that it begins in: its symbol, and for each run that
-    /// has code of the interval where the native code begins and ends, in order, without the ranges that have no byte. An interval that
-    /// is empty or reversed has none. None where the interval begins in no function that has a symbol.
+    /// has code of the interval where the native code begins and ends, in order, without the ranges that have no byte. For a debugger they are
+    /// the maximal ranges of the bytes whose shown source lies in the interval. An interval that is empty or reversed has none. None where
+    /// the interval begins in no function that has a symbol.
     pub fn translate_ranges_raw(&self, start: u64, end: u64) -> Option<(usize, RawRanges<'_>)>
         ensures { result ≡ native_in_function self.now start end }
     {
         let function = self.func_at(start)?;
         let symbol = function.symbol?;
-        let number = first_run(function, start, end);
+        let number = first_number(function, start, end);
         Some((
             symbol,
             RawRanges {
@@ -163,11 +165,48 @@ impl AddressTransform<'_> {
     }
 }
 
+// The number of the first run, and for a debugger of the first stretch, in which an interval can have a range.
+fn first_number(function: &FunctionMap<'_>, start: WasmAddress, end: WasmAddress) -> usize
+    ensures { ranges_to_come function.now start end result ≡ native_ranges (function_view function.now) start end }
+{
+    match function.output_for {
+        OutputFor::Default => first_run(function, start, end),
+        OutputFor::Debugger => 0,
+    }
+}
+
 // The number of the first run in which an interval can have a range: that behind the last where the interval is empty or reversed.
 fn first_run(function: &FunctionMap<'_>, start: WasmAddress, end: WasmAddress) -> usize
-    ensures { ranges_from function.now start end result ≡ native_ranges (function_view function.now) start end }
+    ensures { ranges_from function.now start end result ≡ closed_ranges (function_view function.now) start end }
 {
     if start < end { 0 } else { run_count(function) }
+}
+
+// The number behind the last run, and for a debugger behind the last stretch.
+fn last_number(function: &FunctionMap<'_>) -> usize
+    ensures { (start end number : ℕ) → result ≤ number → ranges_to_come function.now start end number ≡ [] }
+{
+    match function.output_for {
+        OutputFor::Default => run_count(function),
+        OutputFor::Debugger => function.stretches.len(),
+    }
+}
+
+// The first native range of an interval from a run on, and for a debugger from a stretch on, and from which number on the others are.
+fn next_range(
+    function: &FunctionMap<'_>,
+    start: WasmAddress,
+    end: WasmAddress,
+    number: usize,
+) -> Option<(usize, (GeneratedAddress, GeneratedAddress))>
+    ensures range { GivesRange (ranges_to_come function.now start end) number result }
+    ensures order { IfSome result (λ found. found.1.0 < found.1.1) }
+    ensures low { IfSome result (λ found. found.1.1 < 2 ^ 32) }
+{
+    match function.output_for {
+        OutputFor::Default => range_behind(function, start, end, number),
+        OutputFor::Debugger => shown_range(function, start, end, number),
+    }
 }
 
 // The first native range of an interval in the runs of a function from one on, and the number of the run behind its own.
@@ -177,7 +216,7 @@ fn range_behind(
     end: WasmAddress,
     number: usize,
 ) -> Option<(usize, (GeneratedAddress, GeneratedAddress))>
-    ensures range { GivesRange function.now start end number result }
+    ensures range { GivesRange (ranges_from function.now start end) number result }
     ensures order { IfSome result (λ found. found.1.0 < found.1.1) }
     ensures low { IfSome result (λ found. found.1.1 < 2 ^ 32) }
 {

@@ -1,5 +1,5 @@
 //! The functions of a module as its DWARF names them: by wasm offsets, which count from the contents of the code section.
-ghost use Rattle.std.specs.Prelude.{◌≡◌, ◌-◌, ◌+◌, ◌<◌, ◌≤◌, ◌^◌, ℕ, length, map, slice_get, option_map, Some, None, IfOk, IfSome, IsSome, vec_len};
+ghost use Rattle.std.specs.Prelude.{◌≡◌, ◌-◌, ◌+◌, ◌<◌, ◌^◌, length, map, slice_get, option_map, Some, None, IfOk, IfSome, IsSome, vec_len};
 ghost use Rattle.std.specs.Option.{unwrap_or};
 ghost use Rattle.dwc_native.specs.Functions.{map_fault as first_fault, function_of, owner, function_at};
 ghost use Rattle.dwc_compiled.specs.AddressMaps.{address_map_view};
@@ -17,8 +17,9 @@ use crate::error::AddrError;
 use crate::function_map::FunctionMap;
 use crate::hints::{StartHints, gap_hints, source_hints, start_hints};
 use crate::maps::map_fault;
+use crate::shown::shown_parts;
 use crate::sources::Sources;
-use dwc_base::{DefinedFuncIndex, FilePos, StaticModuleIndex, SymbolId};
+use dwc_base::{DefinedFuncIndex, FilePos, OutputFor, StaticModuleIndex, SymbolId};
 use dwc_compiled::CompiledFunctionMetadata;
 use std::alloc::{AllocError, Global};
 use std::marker::Model;
@@ -57,31 +58,41 @@ impl<'a> AddressTransform<'a> {
         module: StaticModuleIndex,
     ) -> Result<AddressTransform<'a>, AddrError>
         requires { «module».0 < length compilation.now.translations }
-        ensures { Transforms (λ t. t) «module».0 (code_offset_at compilation.now «module».0) (first_number compilation.now.functions «module».0) (map address_map_view (functions_at compilation.now «module».0)) result }
+        ensures { Transforms (λ t. t) «module».0 compilation.now.tunables.output_for (code_offset_at compilation.now «module».0) (first_number compilation.now.functions «module».0) (map address_map_view (functions_at compilation.now «module».0)) result }
     {
         let code_offset = compilation.translations()[module.0 as usize].code_section_offset;
         let functions = compilation.functions_of(module);
         let first_number = compilation.first_number(module);
-        AddressTransform::of_functions(alloc, module.0, code_offset, first_number, functions)
+        let output_for = compilation.tunables().output_for;
+        AddressTransform::of_functions(
+            alloc,
+            module.0,
+            output_for,
+            code_offset,
+            first_number,
+            functions,
+        )
     }
 
-    // The transform of a module by its number, whose code section's contents begin at `code_section_offset` of its file, and
+    // The transform of a module by its number, for some output, whose code section's contents begin at `code_section_offset` of its file, and
     // whose defined functions, of which the first has the number `first_number` among those of all modules, are given in
     // order, each with its symbol if it has one.
     fn of_functions(
         alloc: Global,
         module_index: u32,
+        output_for: OutputFor,
         code_section_offset: u64,
         first_number: usize,
         functions: &'a [(Option<SymbolId>, CompiledFunctionMetadata)],
     ) -> Result<AddressTransform<'a>, AddrError>
         requires count { length functions.now < 2 ^ 32 }
         requires numbers { first_number + length functions.now < 2 ^ 64 }
-        ensures { Transforms (λ t. t) module_index code_section_offset first_number (map address_map_view functions.now) result }
+        ensures { Transforms (λ t. t) module_index output_for code_section_offset first_number (map address_map_view functions.now) result }
     {
         let functions = function_maps(
             alloc,
             module_index,
+            output_for,
             code_section_offset,
             first_number,
             functions,
@@ -168,6 +179,7 @@ fn function_at<'f, 'a>(
 fn function_maps<'a>(
     alloc: Global,
     module_index: u32,
+    output_for: OutputFor,
     code_section_offset: u64,
     first_number: usize,
     functions: &'a [(Option<SymbolId>, CompiledFunctionMetadata)],
@@ -175,7 +187,7 @@ fn function_maps<'a>(
     requires count { length functions.now < 2 ^ 32 }
     requires numbers { first_number + length functions.now < 2 ^ 64 }
     ensures count { IfOk result (λ maps. vec_len maps ≡ length functions.now) }
-    ensures functions { Transforms (λ maps. map function_view maps.items) module_index code_section_offset first_number (map address_map_view functions.now) result }
+    ensures functions { Transforms (λ maps. map function_view maps.items) module_index output_for code_section_offset first_number (map address_map_view functions.now) result }
 {
     let mut maps = Vec::with_capacity(alloc, functions.len())?;
     for i in 0..functions.len() {
@@ -188,7 +200,14 @@ fn function_maps<'a>(
             });
         }
         let number = first_number + i;
-        maps.push(function_map(alloc, code_section_offset, number, *symbol, metadata)?)?;
+        maps.push(function_map(
+            alloc,
+            output_for,
+            code_section_offset,
+            number,
+            *symbol,
+            metadata,
+        )?)?;
     }
     Ok(maps)
 }
@@ -196,13 +215,14 @@ fn function_maps<'a>(
 // What is kept of a function by its number.
 fn function_map<'a>(
     alloc: Global,
+    output_for: OutputFor,
     code_section_offset: u64,
     number: usize,
     symbol: Option<SymbolId>,
     metadata: &'a CompiledFunctionMetadata,
 ) -> Result<FunctionMap<'a>, AllocError>
     requires { first_fault code_section_offset (address_map_view (symbol, metadata.now)) ≡ None }
-    ensures { IfOk result (λ f. function_view f ≡ function_of code_section_offset number (address_map_view (symbol, metadata.now))) }
+    ensures { IfOk result (λ f. function_view f ≡ function_of output_for code_section_offset number (address_map_view (symbol, metadata.now))) }
 {
     let map = &metadata.address_map;
     let addresses = Sources::new(map.instructions.sources(), code_section_offset);
@@ -221,10 +241,13 @@ fn function_map<'a>(
         &later_runs,
     )?;
     let gap_hints = gap_hints(alloc, addresses.len(), gaps)?;
+    let len = map.body_len as usize;
+    let (stretches, tables) = shown_parts(alloc, output_for, wasm_start, len, &addresses)?;
     Ok(FunctionMap {
+        output_for,
         symbol: symbol.map(|_| number),
         offset: 0,
-        len: map.body_len as usize,
+        len,
         wasm_start,
         wasm_end,
         addresses,
@@ -236,6 +259,8 @@ fn function_map<'a>(
         block_bits,
         source_hints,
         gap_hints,
+        stretches,
+        tables,
     })
 }
 

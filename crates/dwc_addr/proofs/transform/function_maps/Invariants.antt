@@ -10,5 +10,5 @@ abbrev pub invariant-loop-i : goal.invariant-loop-i
 invariant-loop-i l =
     (length l.maps.items ≡ l.i)
     × (first_bad_map l.code_section_offset l.i (map address_map_view (drop l.i l.functions)) ≡ first_bad_map l.code_section_offset 0 (map address_map_view l.functions))
-    × (map function_view l.maps.items ++ functions_of l.code_section_offset (l.first_number + l.i) (map address_map_view (drop l.i l.functions))
-    ≡ functions_of l.code_section_offset l.first_number (map address_map_view l.functions))
+    × (map function_view l.maps.items ++ functions_of l.output_for l.code_section_offset (l.first_number + l.i) (map address_map_view (drop l.i l.functions))
+    ≡ functions_of l.output_for l.code_section_offset l.first_number (map address_map_view l.functions))
