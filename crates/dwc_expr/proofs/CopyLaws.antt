@@ -1,15 +1,19 @@
 -- Copies of operations for the native ranges of a scope, whose ranges are given by where they begin and how long they are.
-use Rattle.std.proofs.Common.{◌≡◌, ℕ, ◌<◌, ◌≤◌, Bool, true, false, cond, nat_lt, pos, List, [], ◌∷◌, ◌++◌, length, drop, append-nil, map, filter, flat_map, Option, Some, None, option_map, ltb-true, refl, ap, sym, ◌∙◌, arith}
+use Rattle.std.proofs.Common.{◌≡◌, ℕ, suc, ◌<◌, ◌≤◌, Bool, true, false, cond, nat_lt, pos, List, [], ◌∷◌, ◌++◌, length, drop, append-nil, map, filter, flat_map, Option, Some, None, option_map, ltb-true, refl, ap, sym, ◌∙◌, arith}
 use Rattle.std.proofs.lemmas.Int.{ints}
 use Rattle.std.proofs.lemmas.List.{drop_all, map-append}
 use Rattle.dwc_native.specs.BuiltExpressions.{BuiltExpressions, copied}
 use Rattle.dwc_native.specs.Functions.{Function, function_at}
 use Rattle.dwc_native.specs.Placed.{scope_intervals}
-use Rattle.dwc_native.specs.Runs.{is_range, meets, start_in, end_in, runs, native_ranges, native_in_function, interval_of, as_intervals, native}
+use Rattle.dwc_native.specs.ShownSources.{exact_ranges, Apart}
+use Rattle.dwc_native.specs.Runs.{is_range, meets, start_in, end_in, runs, closed_ranges, native_ranges, native_in_function, interval_of, as_intervals, native}
 use Rattle.dwc_dwarf.specs.Trees.{Interval, Location}
+use Rattle.dwc_base.specs.declared.records.OutputFor.{OutputFor}
+use Rattle.dwc_base.specs.declared.records.OutputFor.TheVariants.{Default, Debugger}
 use Rattle.dwc_base.specs.declared.records.Address.{Address}
 use Rattle.dwc_base.specs.declared.records.Address.TheVariants.{Symbol}
 use Rattle.dwc_addr.specs.Translations.{with_length, with_lengths}
+use Rattle.dwc_addr.proofs.ShownLaws.{maximal}
 use Rattle.dwc_unit.specs.RangeLists as given
 use Rattle.dwc_expr.specs.Copies.{copy_at}
 
@@ -26,9 +30,8 @@ ranges-said number (r ∷ rs) = go (is_range r) refl (ranges-said number rs)
     go true some more = ap (λ i. i ∷ map given.interval_of (map (with_length number) (filter is_range rs))) (interval-said number r.0 r.1 (ltb-true r.0 r.1 some)) ∙ ap (λ is. interval_of number r ∷ is) more
     go false none more = more
 
-native-said : (f : Function) (start end : ℕ) → map given.interval_of (map (with_length f.number) (native_ranges f start end)) ≡ map (interval_of f.number) (native_ranges f start end)
-unfolding native_ranges
-native-said f start end = go (nat_lt start end)
+closed-said : (f : Function) (start end : ℕ) → map given.interval_of (map (with_length f.number) (closed_ranges f start end)) ≡ map (interval_of f.number) (closed_ranges f start end)
+closed-said f start end = go (nat_lt start end)
   where
     all : List (ℕ × ℕ)
     all = map (λ r. (start_in start r, end_in end r)) (filter (meets start end) (runs f))
@@ -36,6 +39,21 @@ native-said f start end = go (nat_lt start end)
     go : (b : Bool) → map given.interval_of (map (with_length f.number) (cond {A = List (ℕ × ℕ)} b (filter is_range all) [])) ≡ map (interval_of f.number) (cond {A = List (ℕ × ℕ)} b (filter is_range all) [])
     go true = ranges-said f.number all
     go false = refl
+
+-- ranges that do not touch have a byte each
+apart-said : (number from to : ℕ) (rs : List (ℕ × ℕ)) → Apart from to rs → map given.interval_of (map (with_length number) rs) ≡ map (interval_of number) rs
+apart-said number from to [] h = refl
+apart-said number from to (r ∷ rs) h = ap (λ i. i ∷ map given.interval_of (map (with_length number) rs)) (interval-said number r.0 r.1 h.1) ∙ ap (λ is. interval_of number r ∷ is) (apart-said number (suc r.1) to rs h.3)
+
+native-said : (f : Function) (start end : ℕ) → map given.interval_of (map (with_length f.number) (native_ranges f start end)) ≡ map (interval_of f.number) (native_ranges f start end)
+unfolding native_ranges
+native-said f start end = go f.output
+  where
+    go : (output : OutputFor)
+        → map given.interval_of (map (with_length f.number) (elim output [ Default ↦ closed_ranges f start end | Debugger ↦ exact_ranges f start end ]))
+        ≡ map (interval_of f.number) (elim output [ Default ↦ closed_ranges f start end | Debugger ↦ exact_ranges f start end ])
+    go Default = closed-said f start end
+    go Debugger = apart-said f.number 0 f.length (exact_ranges f start end) (maximal f start end)
 
 -- those of an interval
 pub intervals-said : (fs : List Function) (start end : ℕ) → map given.interval_of (with_lengths (native_in_function fs start end)) ≡ native fs start end

@@ -5,6 +5,7 @@ use Rattle.std.specs.Prelude.{nat_lt, ◌==◌, if◌then◌else◌, option_map,
 use Rattle.std.proofs.lemmas.Bool.{ltb-false}
 use Rattle.std.proofs.lemmas.List.Elements.{All-nil, All-cons, All-head, All-tail}
 use Rattle.dwc_base.specs.declared.records.MapFault.{MapFault}
+use Rattle.dwc_base.specs.declared.records.OutputFor.{OutputFor}
 use Rattle.dwc_base.specs.declared.records.MapFault.TheVariants.{BodyOffset, BeforeCodeSection, Reversed, CodeFalls, CodePastBody, SourceOutside}
 use Rattle.dwc_native.specs.Functions.{AddressMap, Function, Recorded, recorded_entry, wasm_entry, map_fault, bounds_fault, entry_fault, is_source_within, function_of, functions_of}
 use Rattle.dwc_addr.proofs.EntryLaws.{all-good}
@@ -68,17 +69,17 @@ map_fault-ordered code_offset m h = go (m.body_offset == 0) m.start m.end h
     go true (Some start) (Some end) h = inner start end (nat_lt start code_offset) (nat_lt end start) h
 
 -- the function of a map that is good
-function_of-ordered : (code_offset number : ℕ) (m : AddressMap) → map_fault code_offset m ≡ None → IsOrdered (function_of code_offset number m)
-function_of-ordered code_offset number m h =
-    let es : EntriesOrdered m.body_len 0 (function_of code_offset number m).entries = entries-ordered code_offset m.body_len 0 m.entries (map_fault-ordered code_offset m h) in
+function_of-ordered : (output : OutputFor) (code_offset number : ℕ) (m : AddressMap) → map_fault code_offset m ≡ None → IsOrdered (function_of output code_offset number m)
+function_of-ordered output code_offset number m h =
+    let es : EntriesOrdered m.body_len 0 (function_of output code_offset number m).entries = entries-ordered code_offset m.body_len 0 m.entries (map_fault-ordered code_offset m h) in
     record { rises = sources-rise 0 _ es.rises; within = sources-within m.body_len _ es.within }
 
-functions_of-ordered : (code_offset number : ℕ) (ms : List AddressMap) → All (λ m. map_fault code_offset m ≡ None) ms → All IsOrdered (functions_of code_offset number ms)
-functions_of-ordered code_offset number [] h = All-nil IsOrdered
-functions_of-ordered code_offset number (m ∷ ms) h = All-cons IsOrdered _ _ (function_of-ordered code_offset number m (All-head (λ (a : AddressMap). map_fault code_offset a ≡ None) m ms h)) (functions_of-ordered code_offset (number + 1) ms (All-tail (λ (a : AddressMap). map_fault code_offset a ≡ None) m ms h))
+functions_of-ordered : (output : OutputFor) (code_offset number : ℕ) (ms : List AddressMap) → All (λ m. map_fault code_offset m ≡ None) ms → All IsOrdered (functions_of output code_offset number ms)
+functions_of-ordered output code_offset number [] h = All-nil IsOrdered
+functions_of-ordered output code_offset number (m ∷ ms) h = All-cons IsOrdered _ _ (function_of-ordered output code_offset number m (All-head (λ (a : AddressMap). map_fault code_offset a ≡ None) m ms h)) (functions_of-ordered output code_offset (number + 1) ms (All-tail (λ (a : AddressMap). map_fault code_offset a ≡ None) m ms h))
 
 -- The functions of a transform whose maps are good are ordered.
 pub kept-ordered : (fs : List Function) → AreKept fs → All IsOrdered fs
 kept-ordered fs h =
     let maps : List AddressMap = h.maps in
-    rw h.kept (functions_of-ordered h.code_offset h.first_number maps (all-good h.code_offset 0 maps h.good))
+    rw h.kept (functions_of-ordered h.output h.code_offset h.first_number maps (all-good h.code_offset 0 maps h.good))

@@ -3,6 +3,7 @@ use Rattle.std.specs.Prelude.{◌≡◌, ℕ, suc, ◌≤◌, List, map, length,
 use Rattle.std.specs.List.{filter, AllZip}
 use Rattle.dwc_dwarf.specs.LineHeaders.{LineFile}
 use Rattle.dwc_base.specs.declared.records.LineRow.{LineRow}
+use Rattle.dwc_base.specs.declared.records.OutputFor.{OutputFor}
 use Rattle.dwc_base.specs.Sections.{Sections}
 use Rattle.dwc_dwarf.specs.LineRows.{LineTable, LineStep, start, row, end, segments, line_table}
 use Rattle.dwc_dwarf.specs.LineFiles.{has_all_files}
@@ -49,13 +50,14 @@ pub record IsRead (t : LineTable) : Type 0 where
   pub is_read : line_table sections address_size base offset ≡ Ok t
   pub files : has_all_files t ≡ true
 
--- Functions as a transform keeps them, none of whose address maps is bad.
+-- Functions as a transform keeps them for some output, none of whose address maps is bad.
 pub record AreKept (fs : List Function) : Type 0 where
+  pub output : OutputFor
   pub code_offset : ℕ
   pub first_number : ℕ
   pub maps : List AddressMap
   pub good : first_bad_map code_offset 0 maps ≡ None
-  pub kept : fs ≡ functions_of code_offset first_number maps
+  pub kept : fs ≡ functions_of output code_offset first_number maps
 
 -- A line program has the directories and files of a table in order, and its sequences are, one to one and in order, images of
 -- the carried segments of the table. At their widest they are no longer than these.

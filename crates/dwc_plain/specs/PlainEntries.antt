@@ -2,6 +2,7 @@
 use Rattle.std.specs.Prelude.{ℕ, suc, ◌==◌, List, [], map, Bool, false, not, ◌&&◌, ◌||◌, if◌then◌else◌, Option, Some, None, option_map, is_some, is_none}
 use Rattle.std.specs.List.{filter, find, list_any, take_while}
 use Rattle.dwc_base.specs.declared.records.Address.TheVariants.{Constant}
+use Rattle.dwc_base.specs.declared.records.OutputFor.TheVariants.{Default}
 use Rattle.dwc_dwarf.specs.Values.{Value, address, unit_reference, info_reference, dropped}
 use Rattle.dwc_dwarf.specs.Entries.{Entry, attribute}
 use Rattle.dwc_native.specs.Functions.{Function, function_at}
@@ -16,7 +17,7 @@ use Rattle.dwc_plain.specs.declared.entries.PlainEntry.{PlainEntry}
 
 -- a function of which only the start and the symbol's presence count
 abbrev pub function_view : PlainFunction → Function
-function_view f = record { number = 0; symbol = if f.has_symbol then Some 0 else None; start = f.start; end = f.start; length = 0; entries = [] }
+function_view f = record { output = Default; number = 0; symbol = if f.has_symbol then Some 0 else None; start = f.start; end = f.start; length = 0; entries = [] }
 
 abbrev pub value_view : PlainValue → Value
 value_view (Address a) = address (Constant a)
