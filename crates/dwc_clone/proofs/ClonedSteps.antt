@@ -122,7 +122,7 @@ module _ (registers : Registers) (c : CloneSource) (number : ℕ) (s : UnitSourc
     left = still_open e.depth wrappers
 
     -- Where it is not wrapped, it can be added itself.
-    pub can-itself : (most : ℕ) (id : UnitEntryId) → IsFirst es parents ⊎ IsBehind es parents → CanCloseAll most u0 wrappers → is_wrapped p ≡ false → CanAdd id parents now → output.place_of c.places.now e.offset ≡ Some (number, id.index)
+    pub can-itself : (most : ℕ) (id : UnitEntryId) → IsFirst es parents ⊎ IsBehind es parents → CanCloseAll most u0 wrappers → is_wrapped c.module.output_for p ≡ false → CanAdd id parents now → output.place_of c.places.now e.offset ≡ Some (number, id.index)
         → (id.index ≡ length es) → CanBeItself registers c number s source roles (es ++ e ∷ others) begun e others t0 parents now id left
     can-itself most id (inl first) can plain add placed_at place =
         let same : now ≡ u0 = ap (λ ws. closed_from e.depth ws u0) (first.begins).wrappers_are in
@@ -136,20 +136,20 @@ module _ (registers : Registers) (c : CloneSource) (number : ℕ) (s : UnitSourc
         behind.below behind.fits (reserved-there id parents now behind.some add) placed_at
 
     -- Where it is wrapped, it is not the root.
-    wrapped-behind : is_wrapped p ≡ true → IsFirst es parents ⊎ IsBehind es parents → IsBehind es parents
+    wrapped-behind : is_wrapped c.module.output_for p ≡ true → IsFirst es parents ⊎ IsBehind es parents → IsBehind es parents
     wrapped-behind wrapped (inl first) = absurd (clash (sym (root-plain registers c number s source roles (es ++ e ∷ others) begun e others t0 parents first.tag) ∙ wrapped))
       where
         clash : false ≡ true → ⊥
         clash x = cc
     wrapped-behind wrapped (inr behind) = behind
 
-    pub can-wrapped : (most : ℕ) (id : UnitEntryId) → IsFirst es parents ⊎ IsBehind es parents → CanCloseAll most u0 wrappers → is_wrapped p ≡ true → CanAdd id parents now → output.place_of c.places.now e.offset ≡ Some (number, id.index) → TakesRoles roles (numbers_in u0) p
+    pub can-wrapped : (most : ℕ) (id : UnitEntryId) → IsFirst es parents ⊎ IsBehind es parents → CanCloseAll most u0 wrappers → is_wrapped c.module.output_for p ≡ true → CanAdd id parents now → output.place_of c.places.now e.offset ≡ Some (number, id.index) → TakesRoles c.module.output_for roles (numbers_in u0) p
         → (before behind : List OpenWrapper) (new : List (List ℕ)) (path : List UnitEntryId) (v : GivenUnit) → left ≡ reverse before → IsWrapped registers c s p t0 new parents path id before behind now v
         → AreBuilt registers c number s roles (es ++ e ∷ others) others new begun v path (reverse behind) × (numbers_in v ≡ numbers_in now + numbers_taken registers c s p)
     can-wrapped most id standing can wrapped add placed_at takes before behind new path v left_are made =
         let b = wrapped-behind wrapped standing in
         wrapped-built registers c number s source roles (es ++ e ∷ others) begun e others t0 parents wrapped now v id left before behind (ready registers c number s source roles (es ++ e ∷ others) begun e others t0 parents u0 wrappers most b.built can) left_are
-        b.below b.fits (reserved-there id parents now b.some add) placed_at (subst (λ n. TakesRoles roles n p) (sym (closed-length e.depth wrappers u0)) takes) new path made
+        b.below b.fits (reserved-there id parents now b.some add) placed_at (subst (λ n. TakesRoles c.module.output_for roles n p) (sym (closed-length e.depth wrappers u0)) takes) new path made
 
     -- What follows it.
     pub follows-next : (id : UnitEntryId) (path : List UnitEntryId) → IsFirst es parents ⊎ IsBehind es parents → path ≡ take e.depth parents ++ id ∷ [] → CanFollow path others

@@ -1,5 +1,5 @@
 -- What the last entry of a unit is given of the code: bounds, or intervals.
-use Rattle.std.proofs.Common.{◌≡◌, ℕ, refl, ap, arith, ◌<◌, inl, inr, ◌∙◌, List, [], ◌∷◌, get_or, length, map, Option, Some, None}
+use Rattle.std.proofs.Common.{◌≡◌, ◌==◌, ℕ, refl, ap, ap₂, arith, ◌<◌, inl, inr, ◌∙◌, List, [], ◌∷◌, get_or, length, map, Option, Some, None}
 use Rattle.std.specs.Prelude.{◌-ℤ◌, All, pos, nat_abs, Bool, true, if◌then◌else◌, ◌⊎◌}
 use Rattle.std.proofs.Math.IntN.{+ℤ-neg_ℤ_cancel, +ℤ_comm}
 use Rattle.std.proofs.Math.Nat.{zero-lt-suc}
@@ -8,11 +8,13 @@ use Rattle.std.proofs.lemmas.List.Elements.{All-nil}
 use Rattle.dwc_base.specs.declared.constants.TheConstants.{DW_AT_high_pc, DW_AT_low_pc, DW_AT_ranges, DW_FORM_udata, DW_TAG_compile_unit}
 use Rattle.dwc_base.specs.declared.records.Address.{Address}
 use Rattle.dwc_base.specs.declared.records.Address.TheVariants.{Constant as Number, Symbol}
+use Rattle.dwc_base.specs.declared.records.OutputFor.{OutputFor}
+use Rattle.dwc_base.specs.declared.records.OutputFor.TheVariants.{Debugger}
 use Rattle.dwc_dwarf.specs.Entries.{Entry}
 use Rattle.dwc_native.specs.Functions.{Function}
 use Rattle.dwc_dwarf.specs.RawLists.{ListSource}
-use Rattle.dwc_rules.specs.RangeAttributes.{begun_function, bounds, extent, length_of, range_attributes, said_extent, said_intervals}
-use Rattle.dwc_dwarf.specs.Trees.{Interval, TreeValue, ranges}
+use Rattle.dwc_rules.specs.RangeAttributes.{begun_function, bounds, extent, length_of, list_base, range_attributes, said_extent, said_intervals}
+use Rattle.dwc_dwarf.specs.Trees.{Interval, TreeValue, address, ranges}
 use Rattle.dwc_unit.specs.declared.attributes.AttributeValue.TheVariants.{Address as AddressValue, Constant}
 use Rattle.dwc_unit.specs.declared.units.UnitEntryId.{UnitEntryId}
 use Rattle.dwc_unit.specs.GivenUnits.{Addition, GivenUnit, with_value}
@@ -52,6 +54,10 @@ list-said tag [] why = refl
 list-said tag (r ∷ []) (inl p) = ap (λ b. alone b (interval_of r)) (eq-eqb tag DW_TAG_compile_unit p.1)
 list-said tag (r ∷ []) (inr many) = absurd (many refl)
 list-said tag (r ∷ s ∷ rs) why = refl
+
+-- What a list counts from is said in a compile unit for a debugger.
+pub base-said : (output : OutputFor) (tag : ℕ) → output ≡ Debugger → tag ≡ DW_TAG_compile_unit → list_base output (tag == DW_TAG_compile_unit) ≡ (DW_AT_low_pc, address (Number 0)) ∷ []
+base-said output tag is root = ap₂ list_base is (eq-eqb tag DW_TAG_compile_unit root)
 
 -- ---- what an entry is given
 

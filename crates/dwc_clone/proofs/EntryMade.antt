@@ -5,6 +5,8 @@ use Rattle.std.specs.List.{All}
 use Rattle.std.proofs.lemmas.List.{length-set, reverse-append}
 use Rattle.std.proofs.lemmas.List.Elements.{All-nil}
 use Rattle.dwc_base.specs.declared.constants.TheConstants.{DW_TAG_compile_unit, DW_TAG_pointer_type, DW_TAG_reference_type, DW_TAG_structure_type, DW_TAG_subprogram}
+use Rattle.dwc_base.specs.declared.records.OutputFor.{OutputFor}
+use Rattle.dwc_base.specs.declared.records.OutputFor.TheVariants.{Default, Debugger}
 use Rattle.dwc_native.specs.BuiltExpressions.{BuildRefusal}
 use Rattle.dwc_dwarf.specs.Entries.{Entry}
 use Rattle.dwc_rules.specs.Kept.{Placed}
@@ -16,7 +18,7 @@ use Rattle.dwc_rules.specs.Drafts.{Draft, Goal, Role}
 use Rattle.dwc_rules.specs.EntryRules.{wrappers_of}
 use Rattle.dwc_rules.specs.LocationRules.{ExpressionSource, in_force_at}
 use Rattle.dwc_rules.specs.TypeNames.{type_name}
-use Rattle.dwc_rules.specs.Wrappers.{WrapperSource, closing, entries_made, is_wrapped, made_itself, name_or_unknown, open_behind, wrapper, wrapper_name}
+use Rattle.dwc_rules.specs.Wrappers.{WrapperSource, closing, entries_made, is_wrapped, is_wrapped_too, made_itself, name_or_unknown, open_behind, wrapper, wrapper_name}
 use Rattle.dwc_rules.proofs.WrapperLaws.{entries-in_place, made-next}
 use Rattle.dwc_isa.specs.Registers.{Registers}
 use Rattle.dwc_unit.specs.declared.units.UnitEntryId.{UnitEntryId}
@@ -83,7 +85,7 @@ module _ (registers : Registers) (c : CloneSource) (number : ℕ) (s : UnitSourc
   -- ---- numbers
 
   -- what is not wrapped takes those of the variable
-  variable-taken : (plain : is_wrapped p ≡ false) (parent : ℕ) (new : List (List ℕ)) (u v : GivenUnit) → HasVariable (context_over cs p) parent c.vmctx_ptr new u v → Takes u v
+  variable-taken : (plain : is_wrapped c.module.output_for p ≡ false) (parent : ℕ) (new : List (List ℕ)) (u v : GivenUnit) → HasVariable (context_over cs p) parent c.vmctx_ptr new u v → Takes u v
   variable-taken plain parent new u v has = go (context_over cs p) has ∙ ap (λ b. numbers_in u + (if b then 11 else length (context_entries cs p))) (sym plain)
     where
       go : (o : Option (Result (List Location) BuildRefusal)) → HasVariable o parent c.vmctx_ptr new u v → numbers_in v ≡ numbers_in u + length (option_to_list (option_map (λ located. context_variable (suc e.depth) (context_pointer cs) (locations_or_none located)) o))
@@ -95,11 +97,11 @@ module _ (registers : Registers) (c : CloneSource) (number : ℕ) (s : UnitSourc
 
   -- ---- itself
 
-  module _ (plain : is_wrapped p ≡ false) where
+  module _ (plain : is_wrapped c.module.output_for p ≡ false) where
     plain-made : made_itself wrapping clone p ≡ clone p
     plain-made = ap (λ b. if b then wrapper wrapping p else clone p) plain
 
-    plain-open : (stack : List Placed) → open_behind p stack ≡ stack
+    plain-open : (stack : List Placed) → open_behind c.module.output_for p stack ≡ stack
     plain-open stack = ap (λ b. if b then p ∷ stack else stack) plain
 
     itself-built : (u v : GivenUnit) (id parent : UnitEntryId) (wrappers : List OpenWrapper) (r : Ready u wrappers) (above : ℕ) → e.depth ≡ suc above → e.depth ≤ length parents → (last : IsLastAt (draft_depths r.ds) above u parent) → IsReserved id.index u → output.place_of c.places.now e.offset ≡ Some (number, id.index)
@@ -148,8 +150,12 @@ module _ (registers : Registers) (c : CloneSource) (number : ℕ) (s : UnitSourc
   unfolding context_over
   no-context tag = ap (λ t. elim (t == DW_TAG_subprogram) [ true ↦ context_in (in_force_at cs p) | false ↦ None ]) tag
 
-  pub root-plain : e.tag ≡ DW_TAG_compile_unit → is_wrapped p ≡ false
-  root-plain tag = ap (λ t. (t == DW_TAG_pointer_type) || (t == DW_TAG_reference_type)) tag
+  pub root-plain : e.tag ≡ DW_TAG_compile_unit → is_wrapped c.module.output_for p ≡ false
+  root-plain tag = ap (λ t. (t == DW_TAG_pointer_type) || (t == DW_TAG_reference_type) || is_wrapped_too c.module.output_for t) tag ∙ none c.module.output_for
+    where
+      none : (o : OutputFor) → is_wrapped_too o DW_TAG_compile_unit ≡ false
+      none Default = refl
+      none Debugger = refl
 
   root-built : (u v : GivenUnit) (new : List (List ℕ)) (path : List UnitEntryId) → all ≡ e ∷ others → e.depth ≡ 0 → e.tag ≡ DW_TAG_compile_unit → place_of 0 u.places ≡ Some 0 → All (IsPlaceBelow 1) u.places → output.place_of c.places.now e.offset ≡ Some (number, 0) → parents ≡ []
       → IsItself at registers c number s p texts new parents path (record { id = record { index = 0 }; parent = record { index = 0 } }) (rootless begun.version begun.address_size begun.lines u.places) (bare 0 e.tag) v → Built new v path [] × Takes u v
@@ -199,17 +205,17 @@ module _ (registers : Registers) (c : CloneSource) (number : ℕ) (s : UnitSourc
 
   -- ---- wrapped
 
-  module _ (wrapped : is_wrapped p ≡ true) where
+  module _ (wrapped : is_wrapped c.module.output_for p ≡ true) where
     wrapped-made : made_itself wrapping clone p ≡ wrapper wrapping p
     wrapped-made = ap (λ b. if b then wrapper wrapping p else clone p) wrapped
 
-    wrapped-open : (stack : List Placed) → open_behind p stack ≡ p ∷ stack
+    wrapped-open : (stack : List Placed) → open_behind c.module.output_for p stack ≡ p ∷ stack
     wrapped-open stack = ap (λ b. if b then p ∷ stack else stack) wrapped
 
     bare-count : (parent tag id : ℕ) (u v : GivenUnit) → v ≡ with_child parent tag (with_known id u) → numbers_in v ≡ numbers_in u
     bare-count parent tag id u v is = ap numbers_in is ∙ ap length (child-places (with_known id u) parent tag) ∙ known-count id u
 
-    pub wrapped-built : (u v : GivenUnit) (id : UnitEntryId) (wrappers before behind : List OpenWrapper) → Ready u wrappers → wrappers ≡ reverse before → 0 < e.depth → e.depth ≤ length parents → IsReserved id.index u → output.place_of c.places.now e.offset ≡ Some (number, id.index) → TakesRoles roles (numbers_in u) p
+    pub wrapped-built : (u v : GivenUnit) (id : UnitEntryId) (wrappers before behind : List OpenWrapper) → Ready u wrappers → wrappers ≡ reverse before → 0 < e.depth → e.depth ≤ length parents → IsReserved id.index u → output.place_of c.places.now e.offset ≡ Some (number, id.index) → TakesRoles c.module.output_for roles (numbers_in u) p
         → (new : List (List ℕ)) (path : List UnitEntryId) → IsWrapped registers c s p texts new parents path id before behind u v → Built new v path (reverse behind) × Takes u v
     wrapped-built u v id wrappers before behind r wrappers_are below fits reserved placed_at takes new path iw =
         let hp = parent-of (draft_depths r.ds) e.depth u parents r.path below fits in

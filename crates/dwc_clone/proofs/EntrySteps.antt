@@ -58,7 +58,7 @@ module _ (registers : Registers) (c : CloneSource) (number : ℕ) (s : UnitSourc
 
     -- what is left behind the entry, with wrappers open
     abbrev behind : List Placed → List Draft
-    behind stack = closing wrapping (open_behind p stack) (entries_made wrapping clone (placed others))
+    behind stack = closing wrapping (open_behind c.module.output_for p stack) (entries_made wrapping clone (placed others))
 
     -- Wrappers are closed in front of the entry.
     pub record IsReady (u : GivenUnit) (wrappers : List OpenWrapper) : Type 0 where
@@ -98,14 +98,14 @@ module _ (registers : Registers) (c : CloneSource) (number : ℕ) (s : UnitSourc
 
     -- What is added in the place of the entry, with what lies in it, makes the unit as it is to be behind it.
     pub next-built : (u v : GivenUnit) (wrappers opened : List OpenWrapper) (new : List (List ℕ)) (id : UnitEntryId) (r : IsReady u wrappers) → e.depth ≤ length parents → Adds at number new e.depth r.ds (made_itself wrapping clone p) u v → IsLastAt (draft_depths (r.ds ++ made_itself wrapping clone p)) e.depth v id
-        → AreOpen c number roles (r.ds ++ made_itself wrapping clone p) v (suc e.depth) (open_behind p r.stack) opened → AreBuilt registers c number s roles all others new begun v (take e.depth parents ++ id ∷ []) opened
+        → AreOpen c number roles (r.ds ++ made_itself wrapping clone p) v (suc e.depth) (open_behind c.module.output_for p r.stack) opened → AreBuilt registers c number s roles all others new begun v (take e.depth parents ++ id ∷ []) opened
     next-built u v wrappers opened new id r fits adds last opens =
         let long : length (take e.depth parents ++ id ∷ []) ≡ suc e.depth = path-long e.depth parents id fits in
         record {
           ds = r.ds ++ made_itself wrapping clone p;
           drafted = adds.drafted;
-          stack = open_behind p r.stack;
-          opens = subst (λ n. AreOpen c number roles (r.ds ++ made_itself wrapping clone p) v n (open_behind p r.stack) opened) (sym long) opens;
+          stack = open_behind c.module.output_for p r.stack;
+          opens = subst (λ n. AreOpen c number roles (r.ds ++ made_itself wrapping clone p) v n (open_behind c.module.output_for p r.stack) opened) (sym long) opens;
           path = path-push (draft_depths (r.ds ++ made_itself wrapping clone p)) v 0 (take e.depth parents) id
               (path-extended e.depth (draft_depths r.ds) (draft_depths (r.ds ++ made_itself wrapping clone p)) u v adds.extends 0 (take e.depth parents) (omega (arith, length-take-le e.depth parents fits)) r.path)
               (subst (λ n. IsLastAt (draft_depths (r.ds ++ made_itself wrapping clone p)) n v id) (sym (omega (arith, length-take-le e.depth parents fits))) last);

@@ -30,7 +30,7 @@ tells-front xs ys None first = tt
 tells-front [] ys (Some refusal) first = absurd (cc)
 tells-front (x ∷ xs) ys (Some refusal) first = first
 
-module _ (registers : Registers) (c : CloneSource) (s : UnitSource) (p : Placed) (plain : is_wrapped p ≡ false) where
+module _ (registers : Registers) (c : CloneSource) (s : UnitSource) (p : Placed) (plain : is_wrapped c.module.output_for p ≡ false) where
   abbrev located : List Refusal
   located = map (of_build c.module.place) (location_refusals (context_over (source_with registers c s) p))
 

@@ -1,26 +1,28 @@
 -- What an entry that is not wrapped is to say, and the variable of the context behind it.
-use Rattle.std.proofs.Common.{◌≡◌, ℕ, refl, sym, ap, ap₂, ◌∙◌, List, [], ◌∷◌, ◌++◌, map, Bool, true, false, Option, Some, None}
+use Rattle.std.proofs.Common.{◌≡◌, ℕ, refl, sym, ap, ap₂, subst, ◌∙◌, inl, inr, List, [], ◌∷◌, ◌++◌, map, Bool, true, false, Option, Some, None}
 use Rattle.std.specs.Prelude.{◌==◌, ◌&&◌, filter_map, if◌then◌else◌, pos}
 use Rattle.std.specs.List.{cons_option}
 use Rattle.std.proofs.lemmas.List.Elements.{filter_map-append}
 use Rattle.dwc_base.specs.declared.constants.TheConstants.{DW_AT_endianity, DW_AT_high_pc, DW_AT_low_pc, DW_AT_ranges, DW_END_little, DW_FORM_data1, DW_FORM_udata, DW_TAG_base_type, DW_TAG_compile_unit}
-use Rattle.dwc_base.specs.declared.records.Address.TheVariants.{Symbol}
+use Rattle.dwc_base.specs.declared.records.Address.TheVariants.{Constant, Symbol}
 use Rattle.dwc_base.specs.declared.records.Address.{Address}
+use Rattle.dwc_base.specs.declared.records.OutputFor.{OutputFor}
 use Rattle.dwc_native.specs.Functions.{Function}
 use Rattle.dwc_dwarf.specs.RawLists.{ListSource}
 use Rattle.dwc_dwarf.specs.Entries.{Entry}
 use Rattle.dwc_rules.specs.Kept.{Placed}
 use Rattle.dwc_dwarf.specs.Lists.{list_source}
-use Rattle.dwc_rules.specs.RangeAttributes.{Extent, begun_function, bounds, extent, intervals, length_of, nowhere, position, range_attributes, said_extent, said_intervals}
+use Rattle.dwc_rules.specs.RangeAttributes.{Extent, begun_function, bounds, extent, intervals, length_of, nowhere, position, range_attributes, said_extent, said_intervals, with_base}
 use Rattle.dwc_native.specs.ScopesKept.{native_of_intervals}
 use Rattle.dwc_dwarf.specs.Trees as trees
-use Rattle.dwc_dwarf.specs.Trees.{Interval, Location, TreeEntry, TreeValue, constant, set_in_order}
+use Rattle.dwc_dwarf.specs.Trees.{Interval, TreeEntry, TreeValue, constant}
 use Rattle.dwc_rules.specs.Clones.{UnitSource, attributes_become, attributes_made, endianity, if_made}
 use Rattle.dwc_rules.specs.CarriedDrafts.{draft_told}
 use Rattle.dwc_rules.specs.Drafts.{DraftValue, Goal, done}
 use Rattle.dwc_rules.specs.DraftForests.{settled, settled_entry}
 use Rattle.dwc_rules.specs.EntryRules.{wrappers_of}
 use Rattle.dwc_rules.specs.ObjectPointers.{has_parameters, is_object_pointer, names_no_pointer, pointers_changed, unlike_this}
+use Rattle.dwc_rules.proofs.ListBaseLaws.{BaseOrNone, base-or-none}
 use Rattle.dwc_isa.specs.Registers.{Registers}
 use Rattle.dwc_clone.specs.declared.object_pointer.Telling.{Telling}
 use Rattle.dwc_clone.specs.declared.object_pointer.Telling.TheVariants.{Function as OfFunction, ObjectPointer, Plain}
@@ -28,7 +30,7 @@ use Rattle.dwc_source.specs.declared.source.CloneSource.{CloneSource}
 use Rattle.dwc_extents.specs.CodeSources.{clone_rules, source_with}
 use Rattle.dwc_clone.specs.ClonedEntries.{Tell, set_behind, values_wanted}
 use Rattle.dwc_dwarf.specs.Texts.{TextSource}
-use Rattle.dwc_clone.specs.PlainEntries.{values_whole}
+use Rattle.dwc_clone.specs.PlainEntries.{code_said, values_whole}
 use Rattle.dwc_clone.specs.Tellings.{tell_of, telling_of}
 
 -- ---- what is told of bounds and of the byte order is what is said
@@ -88,6 +90,14 @@ bounds-stay tell leaves lists fs e = go (begun_function lists fs e) (extent list
     go None (intervals []) = tt
     go None (intervals (i ∷ is)) = said-stay e.tag (native_of_intervals fs (i ∷ is))
 
+-- with a base in front of a list
+based-stay : (tell : Tell) → LeavesBounds tell → (output : OutputFor) (is_root : Bool) (as' : List (ℕ × TreeValue)) → Each (Stays tell) as' → Each (Stays tell) (with_base output is_root as')
+based-stay tell leaves output is_root as' stay = go (base-or-none output is_root as')
+  where
+    go : BaseOrNone (with_base output is_root as') as' → Each (Stays tell) (with_base output is_root as')
+    go (inl none) = subst (Each (Stays tell)) (sym none) stay
+    go (inr base) = subst (Each (Stays tell)) (sym base) (leaves.low (trees.address (Constant 0)), stay)
+
 order-stays : (tell : Tell) → LeavesBounds tell → (big_endian : Bool) (e : Placed) → filter_map tell (endianity big_endian e) ≡ endianity big_endian e
 order-stays tell leaves big_endian e = go (big_endian && (e.entry.tag == DW_TAG_base_type))
   where
@@ -123,7 +133,7 @@ module _ (registers : Registers) (c : CloneSource) (s : UnitSource) (p : Placed)
   wanted-entry goals texts =
       let S = settled goals in
       let front : List (ℕ × DraftValue) = (clone_rules registers c s).bounds p in
-      let said = range_attributes (list_source c.unit.now.sections c.unit.now.header) c.transform.now p.entry in
+      let said = code_said c p.entry in
       let middle = filter_map (λ a. if_made a.0 a.1) (attributes_become (clone_rules registers c s) s p [] p.entry.attributes) in
       let last = endianity c.big_endian p in
       let whole : List (ℕ × TreeValue) → TreeEntry = λ values. record { depth = p.entry.depth; tag = p.entry.tag; attributes = set_behind [] values } in
@@ -132,7 +142,7 @@ module _ (registers : Registers) (c : CloneSource) (s : UnitSource) (p : Placed)
       ap (λ xs. whole (filter_map S xs))
       (changed-told (front ++ middle ++ last)
       ∙ filter_map-append tells (front ++ middle) last
-      ∙ ap₂ (λ (xs ys : List (ℕ × DraftValue)). xs ++ ys) (filter_map-append tells front middle ∙ ap (λ xs. xs ++ filter_map tells middle) (told-same tells said (bounds-stay tells leaves (list_source c.unit.now.sections c.unit.now.header) c.transform.now p.entry))) (order-stays tells leaves c.big_endian p))
+      ∙ ap₂ (λ (xs ys : List (ℕ × DraftValue)). xs ++ ys) (filter_map-append tells front middle ∙ ap (λ xs. xs ++ filter_map tells middle) (told-same tells said (based-stay tells leaves c.module.output_for (p.entry.tag == DW_TAG_compile_unit) (range_attributes (list_source c.unit.now.sections c.unit.now.header) c.transform.now p.entry) (bounds-stay tells leaves (list_source c.unit.now.sections c.unit.now.header) c.transform.now p.entry)))) (order-stays tells leaves c.big_endian p))
       ∙ ap whole
       (filter_map-append S (front ++ filter_map tells middle) last
       ∙ ap (λ xs. xs ++ filter_map S last) (filter_map-append S front (filter_map tells middle) ∙ ap (λ xs. xs ++ filter_map S (filter_map tells middle)) (settled-done goals said)))

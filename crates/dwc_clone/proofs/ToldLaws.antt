@@ -49,7 +49,7 @@ use Rattle.dwc_source.specs.OutputPlaces.{place_of}
 use Rattle.dwc_source.specs.Sources.{IsSource, is_within}
 use Rattle.dwc_clone.specs.Tellings.{is_in_unit, names_within, tell_of}
 use Rattle.dwc_extents.proofs.LocationsFit.{OfAnswered}
-use Rattle.dwc_clone.proofs.ValueLaws.{attribute-value}
+use Rattle.dwc_clone.proofs.ValueLaws.{attribute-value, stays-named}
 
 -- ---- values that are no texts and go nowhere
 
@@ -170,7 +170,7 @@ code_becomes-plain s fs here v = go v
 module _ (x : ExpressionSource) (e : Placed) (before : List (ℕ × Value)) (name : ℕ) where
   expression-plain : (bytes : List ℕ) → ArePlain (code_value_becomes x e before name (Values.expression bytes))
   unfolding expression_becomes
-  expression-plain bytes = told-plain (of_location x.told.place) (expression_becomes x e before name bytes) (go (is_wrapped e))
+  expression-plain bytes = told-plain (of_location x.told.place) (expression_becomes x e before name bytes) (go (is_wrapped x.told.output e))
     where
       go : (b : Bool) → ArePlain (elim b [
         | true ↦ (read_expression name (in_force_at x e) (given_expression x e before bytes) >>= λ read. Ok None)
@@ -191,7 +191,7 @@ module _ (x : ExpressionSource) (e : Placed) (before : List (ℕ × Value)) (nam
       one false xs = drafted-plain (value_of_locations (in_force_at x e) xs) (locations-plain (in_force_at x e) xs)
 
       go : (r : Result (List ListedExpression) Refusal) → ArePlain (r >>= λ xs. told_as (of_location x.told.place) (listed_become x e xs))
-      go (Ok xs) = told-plain (of_location x.told.place) (listed_become x e xs) (one (is_wrapped e) xs)
+      go (Ok xs) = told-plain (of_location x.told.place) (listed_become x e xs) (one (is_wrapped x.told.output e) xs)
       go (Err refusal) = tt
 
   -- an address, or a range list
@@ -285,7 +285,7 @@ module _ (registers : Registers) (c : CloneSource) (number : ℕ) (s : UnitSourc
   pointer_becomes v = attribute_becomes (clone_rules registers c s) s e before (DW_AT_object_pointer, v)
 
   pointer-value : (v : Value) → pointer_becomes v ≡ value_becomes (clone_rules registers c s) s e before DW_AT_object_pointer v
-  pointer-value v = attribute-value (clone_rules registers c s) s e before (DW_AT_object_pointer, v) refl refl refl
+  pointer-value v = attribute-value (clone_rules registers c s) s e before (DW_AT_object_pointer, v) false (stays-named c.module.output_for e.entry DW_AT_object_pointer refl refl) refl refl refl
 
   -- What is made of an entry of the section is made of one of the unit, where its offset is in the unit.
   stays-within : (f : Placed) → IsIn f s.entries → stays_in_unit s.entries e (goes_to (made_of f.entry.offset itself)) ≡ is_within c f.entry.offset
@@ -423,7 +423,7 @@ module _ (registers : Registers) (c : CloneSource) (s : UnitSource) (e : Placed)
   name_read = reported Text Info here (text_named texts v)
 
   name-value : name_becomes ≡ value_becomes (clone_rules registers c s) s e before DW_AT_name v
-  name-value = attribute-value (clone_rules registers c s) s e before (DW_AT_name, v) refl refl refl
+  name-value = attribute-value (clone_rules registers c s) s e before (DW_AT_name, v) false (stays-named c.module.output_for e.entry DW_AT_name refl refl) refl refl refl
 
   name-text : value_becomes (clone_rules registers c s) s e before DW_AT_name v ≡ text_becomes (clone_rules registers c s) s e v → name_becomes ≡ text_drafted of_place name_read
   name-text as-text =

@@ -1,26 +1,29 @@
 -- What values become, and what is made of them says.
-use Rattle.std.proofs.Common.{◌≡◌, ℕ, Bor, refl, sym, ap, subst, ◌∙◌, List, Bool, true, false, Option, None, Result, Ok, ◌⊎◌, inl, inr}
-use Rattle.std.specs.Prelude.{◌==◌}
+use Rattle.std.proofs.Common.{◌≡◌, ℕ, Bor, refl, sym, ap, subst, ◌∙◌, List, Bool, true, false, Option, None, Some, Result, Ok, ◌⊎◌, inl, inr}
+use Rattle.std.specs.Prelude.{◌==◌, ◌&&◌, ◌||◌, not}
 use Rattle.dwc_base.specs.declared.section_name.SectionName.TheVariants.{Info}
 use Rattle.dwc_base.specs.declared.faults.What.TheVariants.{Text as TextRead}
-use Rattle.dwc_base.specs.declared.constants.TheConstants.{DW_AT_stmt_list}
+use Rattle.dwc_base.specs.declared.constants.TheConstants.{DW_AT_containing_type, DW_AT_stmt_list, DW_AT_vtable_elem_location, DW_TAG_ptr_to_member_type}
 use Rattle.dwc_base.specs.Sections.{reported}
 use Rattle.dwc_base.specs.declared.records.Address.{Address}
+use Rattle.dwc_base.specs.declared.records.OutputFor.{OutputFor}
+use Rattle.dwc_base.specs.declared.records.OutputFor.TheVariants.{Default, Debugger}
+use Rattle.dwc_dwarf.specs.Entries.{Entry}
 use Rattle.dwc_dwarf.specs.Values.{Value, expression}
 use Rattle.dwc_dwarf.specs.Texts.{TextSource, text_named}
 use Rattle.dwc_rules.specs.Kept.{Placed}
 use Rattle.dwc_rules.specs.Refusals.{Refusal, of_place}
 use Rattle.dwc_rules.specs.Drafts.{DraftValue}
-use Rattle.dwc_rules.specs.EntryRules.{code_value_becomes, of_list, rules_of_source}
+use Rattle.dwc_rules.specs.EntryRules.{code_value_becomes, is_gone, of_list, rules_of_source}
 use Rattle.dwc_rules.specs.LocationRules.{ExpressionSource, lists_of}
 use Rattle.dwc_rules.specs.RangeRules.{code_becomes, told_as}
-use Rattle.dwc_rules.specs.Clones.{CodeRules, UnitSource, attribute_becomes, bound_becomes, is_bound_name, is_dropped_name, table_becomes, text_becomes, text_drafted, value_becomes}
+use Rattle.dwc_rules.specs.Clones.{CodeRules, UnitSource, attribute_becomes, bound_becomes, is_bound_name, is_dropped_name, kept_unless, table_becomes, text_becomes, text_drafted, value_becomes}
 use Rattle.dwc_read.specs.declared.value.AttributeValue.TheVariants as input
 use Rattle.dwc_read.specs.declared.value.AttributeValue as values
 use Rattle.dwc_read.specs.ValuesSeen.{value_view}
 use Rattle.dwc_unit.specs.declared.attributes.AttributeValue.{AttributeValue}
 use Rattle.dwc_source.specs.declared.places.EmittedEntry.{EmittedEntry}
-use Rattle.dwc_source.specs.MadeValues.{IsMade, Says, SaysMore}
+use Rattle.dwc_source.specs.MadeValues.{IsMade, RefusesSo, Says, SaysMore}
 use Rattle.dwc_source.proofs.TextLaws.{Grows-same}
 
 -- What is made says what is to be said, and no text is added.
@@ -105,7 +108,7 @@ module _ (x : ExpressionSource) (s : UnitSource) (e : Placed) (before : List (�
 module _ (rules : CodeRules Refusal) (s : UnitSource) (e : Placed) (before : List (ℕ × Value)) (a : ℕ × Value) where
   -- what an attribute becomes, by what its name is
   abbrev by_name : Bool → Bool → Bool → Result (Option DraftValue) Refusal
-  by_name dropped table bound = elim dropped [ true ↦ Ok None | false ↦ elim table [ true ↦ Ok (table_becomes s e) | false ↦ elim bound [ true ↦ bound_becomes rules s e before a | false ↦ value_becomes rules s e before a.0 a.1 ] ] ]
+  by_name dropped table bound = elim dropped [ true ↦ Ok None | false ↦ elim table [ true ↦ Ok (table_becomes s e) | false ↦ elim bound [ true ↦ bound_becomes rules s e before a | false ↦ kept_unless (rules.goes e a.0) (value_becomes rules s e before a.0 a.1) ] ] ]
 
   becomes-by_name : (dropped table bound : Bool) → is_dropped_name a.0 ≡ dropped → (a.0 == DW_AT_stmt_list) ≡ table → is_bound_name a.0 ≡ bound → attribute_becomes rules s e before a ≡ by_name dropped table bound
   unfolding attribute_becomes
@@ -120,5 +123,22 @@ module _ (rules : CodeRules Refusal) (s : UnitSource) (e : Placed) (before : Lis
   pub attribute-bound : is_dropped_name a.0 ≡ false → (a.0 == DW_AT_stmt_list) ≡ false → is_bound_name a.0 ≡ true → attribute_becomes rules s e before a ≡ bound_becomes rules s e before a
   attribute-bound d t b = becomes-by_name false false true d t b
 
-  pub attribute-value : is_dropped_name a.0 ≡ false → (a.0 == DW_AT_stmt_list) ≡ false → is_bound_name a.0 ≡ false → attribute_becomes rules s e before a ≡ value_becomes rules s e before a.0 a.1
-  attribute-value d t b = becomes-by_name false false false d t b
+  pub attribute-value : (goes : Bool) → rules.goes e a.0 ≡ goes → is_dropped_name a.0 ≡ false → (a.0 == DW_AT_stmt_list) ≡ false → is_bound_name a.0 ≡ false → attribute_becomes rules s e before a ≡ kept_unless goes (value_becomes rules s e before a.0 a.1)
+  attribute-value goes g d t b = becomes-by_name false false false d t b ∙ ap (λ x. kept_unless x (value_becomes rules s e before a.0 a.1)) g
+
+-- A name goes in no output that is none of the two that lead a debugger astray.
+pub stays-named : (output : OutputFor) (e : Entry) (name : ℕ) → (name == DW_AT_containing_type) ≡ false → (name == DW_AT_vtable_elem_location) ≡ false → is_gone output e name ≡ false
+stays-named Default e name holder place = refl
+stays-named Debugger e name holder place = ap (λ b. (b && not (e.tag == DW_TAG_ptr_to_member_type)) || (name == DW_AT_vtable_elem_location)) holder ∙ place
+
+-- Of a value that goes nothing is made once it was read, and its refusal is told.
+pub gone-made : (places : List EmittedEntry) (number name : ℕ) (old new : List (List ℕ)) (read : Result (Option DraftValue) Refusal) (v : Option AttributeValue) → IsMade (SaysMore places number name old new) read v → IsMade (SaysMore places number name old new) (kept_unless true read) None
+gone-made places number name old new read v made = record {
+  drafted = None;
+  is = ap (kept_unless true) made.is;
+  made = record { grows = made.made.grows; says = record { means = λ goals at. refl; fits = λ size. tt; texts = tt } };
+}
+
+pub gone-refused : (read : Result (Option DraftValue) Refusal) (o : Option Refusal) → RefusesSo read o → RefusesSo (kept_unless true read) o
+gone-refused read None refused = tt
+gone-refused read (Some refusal) refused = ap (kept_unless true) refused

@@ -2,7 +2,9 @@
 use Rattle.std.proofs.Common.{◌≡◌, ℕ, refl, sym, ap, subst, ◌∙◌, append-nil, List, [], ◌∷◌, ◌++◌, map, Bool, true, false, Option, Some, None, Result, Ok, Err}
 use Rattle.std.specs.Prelude.{◌==◌, ◌||◌, IfErr, OnOk}
 use Rattle.std.proofs.lemmas.Bool.{eqb-true}
-use Rattle.dwc_base.specs.declared.constants.TheConstants.{DW_TAG_pointer_type, DW_TAG_reference_type, DW_TAG_subprogram}
+use Rattle.dwc_base.specs.declared.constants.TheConstants.{DW_TAG_pointer_type, DW_TAG_reference_type, DW_TAG_rvalue_reference_type, DW_TAG_subprogram}
+use Rattle.dwc_base.specs.declared.records.OutputFor.{OutputFor}
+use Rattle.dwc_base.specs.declared.records.OutputFor.TheVariants.{Default, Debugger}
 use Rattle.dwc_base.specs.Sections.{Fault}
 use Rattle.dwc_rules.specs.Kept.{Placed}
 use Rattle.dwc_rules.specs.Refusals.{Refusal, of_place}
@@ -12,7 +14,7 @@ use Rattle.dwc_rules.specs.ContextVariable.{context_in, context_over, location_r
 use Rattle.dwc_rules.specs.EntryRules.{of_build}
 use Rattle.dwc_rules.specs.LocationRules.{in_force_at}
 use Rattle.dwc_rules.specs.TypeNames.{type_name}
-use Rattle.dwc_rules.specs.Wrappers.{is_wrapped, name_fault, name_or_unknown, wrapper_name, wrapper_refusals}
+use Rattle.dwc_rules.specs.Wrappers.{is_wrapped, is_wrapped_too, name_fault, name_or_unknown, wrapper_name, wrapper_refusals}
 use Rattle.dwc_isa.specs.Registers.{Registers}
 use Rattle.dwc_unit.specs.declared.strings.StringId.{StringId}
 use Rattle.dwc_unit.specs.declared.units.UnitEntryId.{UnitEntryId}
@@ -38,14 +40,19 @@ use Rattle.dwc_clone.proofs.EntryValues.{grows-on}
 -- ---- what is refused of an entry that is wrapped
 
 -- It is no subprogram.
-other-tag : (tag : ℕ) → ((tag == DW_TAG_pointer_type) || (tag == DW_TAG_reference_type)) ≡ true → (tag == DW_TAG_subprogram) ≡ false
-other-tag tag wrapped = go (tag == DW_TAG_pointer_type) refl wrapped
+other-tag : (output : OutputFor) (tag : ℕ) → ((tag == DW_TAG_pointer_type) || (tag == DW_TAG_reference_type) || is_wrapped_too output tag) ≡ true → (tag == DW_TAG_subprogram) ≡ false
+other-tag output tag wrapped = go (tag == DW_TAG_pointer_type) refl (tag == DW_TAG_reference_type) refl wrapped
   where
-    go : (b : Bool) → (tag == DW_TAG_pointer_type) ≡ b → (b || (tag == DW_TAG_reference_type)) ≡ true → (tag == DW_TAG_subprogram) ≡ false
-    go true is wrapped = ap (λ n. n == DW_TAG_subprogram) (eqb-true tag DW_TAG_pointer_type is)
-    go false is wrapped = ap (λ n. n == DW_TAG_subprogram) (eqb-true tag DW_TAG_reference_type wrapped)
+    too : (o : OutputFor) → is_wrapped_too o tag ≡ true → (tag == DW_TAG_subprogram) ≡ false
+    too Default is = absurd (cc)
+    too Debugger is = ap (λ n. n == DW_TAG_subprogram) (eqb-true tag DW_TAG_rvalue_reference_type is)
 
-module _ (registers : Registers) (c : CloneSource) (number : ℕ) (s : UnitSource) (p : Placed) (source : IsSource c number s) (wrapped : is_wrapped p ≡ true) where
+    go : (a : Bool) → (tag == DW_TAG_pointer_type) ≡ a → (b : Bool) → (tag == DW_TAG_reference_type) ≡ b → (a || b || is_wrapped_too output tag) ≡ true → (tag == DW_TAG_subprogram) ≡ false
+    go true pointer b reference wrapped = ap (λ n. n == DW_TAG_subprogram) (eqb-true tag DW_TAG_pointer_type pointer)
+    go false pointer true reference wrapped = ap (λ n. n == DW_TAG_subprogram) (eqb-true tag DW_TAG_reference_type reference)
+    go false pointer false reference wrapped = too output wrapped
+
+module _ (registers : Registers) (c : CloneSource) (number : ℕ) (s : UnitSource) (p : Placed) (source : IsSource c number s) (wrapped : is_wrapped c.module.output_for p ≡ true) where
   -- The refusals of its attributes, and then why its name is not read.
   refused-wrapped : entry_refusals (clone_rules registers c s) s p ≡ values_refused registers c s p [] p.entry.attributes ++ map of_place (name_fault (type_name s.texts s.entries p))
   unfolding entry_refusals wrapper_refusals context_over
@@ -54,9 +61,9 @@ module _ (registers : Registers) (c : CloneSource) (number : ℕ) (s : UnitSourc
       let src = source_with registers c s in
       let located : Bool → List Refusal = λ b. map (of_build src.told.place) (location_refusals (elim b [ true ↦ context_in (in_force_at src p) | false ↦ None ])) in
       let unread : Bool → List Fault = λ b. elim b [ true ↦ name_fault (type_name s.texts s.entries p) | false ↦ [] ] in
-      ap (λ texts. values ++ (map of_place (elim (is_wrapped p) [ true ↦ name_fault (type_name texts s.entries p) | false ↦ [] ]) ++ located (p.entry.tag == DW_TAG_subprogram))) (sym source.texts)
+      ap (λ texts. values ++ (map of_place (elim (is_wrapped c.module.output_for p) [ true ↦ name_fault (type_name texts s.entries p) | false ↦ [] ]) ++ located (p.entry.tag == DW_TAG_subprogram))) (sym source.texts)
       ∙ ap (λ b. values ++ (map of_place (unread b) ++ located (p.entry.tag == DW_TAG_subprogram))) wrapped
-      ∙ ap (λ b. values ++ (map of_place (name_fault (type_name s.texts s.entries p)) ++ located b)) (other-tag p.entry.tag wrapped)
+      ∙ ap (λ b. values ++ (map of_place (name_fault (type_name s.texts s.entries p)) ++ located b)) (other-tag c.module.output_for p.entry.tag wrapped)
       ∙ ap (λ xs. values ++ xs) (append-nil (map of_place (name_fault (type_name s.texts s.entries p))))
 
   -- The first refusal of the attributes is the first of the entry.

@@ -1,6 +1,7 @@
 -- A unit of the output while it is made of the kept entries of a unit, one after another in file order.
 use Rattle.std.specs.Prelude.{◌≡◌, ℕ, suc, ◌+◌, ◌<◌, List, [], ◌∷◌, ◌++◌, length, All, true, if◌then◌else◌, Option, Some, Result, Ok, Err}
 use Rattle.dwc_base.specs.declared.constants.TheConstants.{DW_TAG_compile_unit}
+use Rattle.dwc_base.specs.declared.records.OutputFor.{OutputFor}
 use Rattle.dwc_dwarf.specs.Entries.{Entry}
 use Rattle.dwc_rules.specs.Kept.{Placed}
 use Rattle.dwc_dwarf.specs.Lists.{list_source}
@@ -78,16 +79,16 @@ AreOpen c number roles ds u bound (e ∷ es) (w ∷ ws) = (e.entry.depth < bound
 -- so many numbers more an entry takes than that which was reserved for it: those of the types and the other entries of a wrapper, or that
 -- of the variable of the context
 abbrev pub numbers_taken : Registers → CloneSource → UnitSource → Placed → ℕ
-numbers_taken registers c s p = if is_wrapped p then 11 else length (context_entries (source_with registers c s) p)
+numbers_taken registers c s p = if is_wrapped c.module.output_for p then 11 else length (context_entries (source_with registers c s) p)
 
--- the types of an entry, if it is wrapped, have three numbers from one on
-abbrev pub TakesRoles : (ℕ → Role → Option ℕ) → ℕ → Placed → Type 0
-TakesRoles roles first p = is_wrapped p ≡ true → (roles p.entry.offset pointer_to_wrapper ≡ Some first) × (roles p.entry.offset reference_to_target ≡ Some (suc first)) × (roles p.entry.offset pointer_to_target ≡ Some (suc (suc first)))
+-- the types of an entry, if it is wrapped for an output, have three numbers from one on
+abbrev pub TakesRoles : OutputFor → (ℕ → Role → Option ℕ) → ℕ → Placed → Type 0
+TakesRoles output roles first p = is_wrapped output p ≡ true → (roles p.entry.offset pointer_to_wrapper ≡ Some first) × (roles p.entry.offset reference_to_target ≡ Some (suc first)) × (roles p.entry.offset pointer_to_target ≡ Some (suc (suc first)))
 
 -- and so of some, of which the first takes numbers from one on
 abbrev pub AreRoles : Registers → CloneSource → UnitSource → (ℕ → Role → Option ℕ) → ℕ → List Placed → Type 0
 AreRoles registers c s roles first [] = Unit {0}
-AreRoles registers c s roles first (p ∷ ps) = TakesRoles roles first p × AreRoles registers c s roles (first + numbers_taken registers c s p) ps
+AreRoles registers c s roles first (p ∷ ps) = TakesRoles c.module.output_for roles first p × AreRoles registers c s roles (first + numbers_taken registers c s p) ps
 
 -- ---- so far
 

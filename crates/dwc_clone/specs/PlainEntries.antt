@@ -1,8 +1,10 @@
 -- What is made of an entry that is not wrapped.
-use Rattle.std.specs.Prelude.{◌≡◌, ℕ, List, [], ◌∷◌, ◌++◌, take, filter_map, Option, Result, Ok, Err}
+use Rattle.std.specs.Prelude.{◌≡◌, ◌==◌, ℕ, List, [], ◌∷◌, ◌++◌, take, filter_map, Option, Result, Ok, Err}
+use Rattle.dwc_base.specs.declared.constants.TheConstants.{DW_TAG_compile_unit}
+use Rattle.dwc_dwarf.specs.Entries.{Entry}
 use Rattle.dwc_rules.specs.Kept.{Placed}
 use Rattle.dwc_dwarf.specs.Lists.{list_source}
-use Rattle.dwc_rules.specs.RangeAttributes.{range_attributes}
+use Rattle.dwc_rules.specs.RangeAttributes.{range_attributes, with_base}
 use Rattle.dwc_dwarf.specs.Trees.{TreeValue}
 use Rattle.dwc_rules.specs.Clones.{UnitSource, endianity, entry_refusals}
 use Rattle.dwc_rules.specs.ContextVariable.{context_over}
@@ -22,10 +24,14 @@ use Rattle.dwc_clone.specs.ClonedEntries.{IsGiven, values_wanted}
 use Rattle.dwc_clone.specs.ContextPlaces.{HasVariable}
 use Rattle.dwc_clone.specs.Tellings.{tell_of, telling_of}
 
+-- what an entry is to say of where its code is, for the output of its module
+abbrev pub code_said : CloneSource → Entry → List (ℕ × TreeValue)
+code_said c e = with_base c.module.output_for (e.tag == DW_TAG_compile_unit) (range_attributes (list_source c.unit.now.sections c.unit.now.header) c.transform.now e)
+
 -- What an entry is to say where goals are at some numbers: where its code is, its attributes as they are told, and its byte order.
 abbrev pub values_whole : Registers → CloneSource → UnitSource → Placed → (Goal → Option (ℕ × ℕ)) → List (ℕ × TreeValue)
 values_whole registers c s p goals =
-    range_attributes (list_source c.unit.now.sections c.unit.now.header) c.transform.now p.entry
+    code_said c p.entry
     ++ values_wanted goals (tell_of (telling_of s.texts s.entries p) s.entries p) registers c s p [] p.entry.attributes
     ++ filter_map (settled goals) (endianity c.big_endian p)
 

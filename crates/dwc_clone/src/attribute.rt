@@ -7,7 +7,7 @@ ghost use Rattle.dwc_dwarf.specs.ReadValues.{IsReadValue};
 ghost use Rattle.dwc_native.specs.Addends.{HaveAddends};
 ghost use Rattle.dwc_dwarf.specs.Lists.{list_source};
 ghost use Rattle.dwc_rules.specs.RangeRefusals.{begins_by_low_pc};
-ghost use Rattle.dwc_rules.specs.Clones.{UnitSource, attribute_becomes, table_becomes};
+ghost use Rattle.dwc_rules.specs.Clones.{UnitSource, attribute_becomes, kept_unless, table_becomes, value_becomes};
 ghost use Rattle.dwc_read.specs.ValuesSeen.{value_view, attribute_view};
 ghost use Rattle.dwc_read.specs.EntriesSeen.{entry_view};
 ghost use Rattle.dwc_unit.specs.GivenUnits.{FitsValue};
@@ -23,7 +23,7 @@ use dwc_base::constants::DW_AT_stmt_list;
 use dwc_extents::{Lineage, check_bound};
 use dwc_isa::TargetIsa;
 use dwc_read::{AttributeValue as InputValue, Entry};
-use dwc_source::{CloneError, CloneSource, KnownTexts, is_bound_name, is_dropped_name};
+use dwc_source::{CloneError, CloneSource, KnownTexts, is_bound_name, is_dropped_name, is_gone};
 use dwc_unit::{AttributeValue, StringTable};
 use std::alloc::Global;
 
@@ -37,6 +37,34 @@ fn line_table(source: &CloneSource<'_, '_>, entry: &Entry<'_>) -> Option<Attribu
     } else {
         None
     }
+}
+
+// Reads a value of an entry under a name that goes once it was read; nothing becomes of it.
+#[inline(never)]
+fn gone_value(
+    alloc: Global,
+    isa: &dyn TargetIsa,
+    source: &CloneSource<'_, '_>,
+    lineage: &Lineage,
+    entry: &Entry<'_>,
+    number: usize,
+    name: u16,
+    value: InputValue<'_>,
+    strings: &mut StringTable,
+    known: &mut KnownTexts,
+) -> Result<Option<AttributeValue>, CloneError>
+    requires functions { HaveAddends source.now.transform.now }
+    requires read { IsReadValue name (value_view value) }
+    requires known { KnowsTexts source.now.unit.now.sections strings.old known.old }
+    ensures made { (unit : ℕ) (s : UnitSource) (e : Placed) (before : List (ℕ × Value)) → IsSource source.now unit s → e.unit ≡ source.now.unit.now.header.offset → e.entry ≡ entry_view entry.now → length before ≡ number → GivesInForce source.now s e lineage.now → GivesMade (SaysMore source.now.places.now unit name strings.old strings.new) (kept_unless true (value_becomes (clone_rules (dwarf_registers isa.now) source.now s) s e before name (value_view value.entry))) result }
+    ensures fits { IfOk result (λ v. (size : ℕ) → IfSome v (FitsValue size name)) }
+    ensures known { KnowsTexts source.now.unit.now.sections strings.new known.new }
+    ensures grows { Grows strings.old strings.new }
+{
+    output_value(
+        alloc, isa, source, lineage, entry, number, name, value, strings, known,
+    )?;
+    Ok(None)
 }
 
 /// What an attribute of an entry becomes; None where it goes. `begins` tells whether the entry is a subprogram that begins in a function
@@ -84,6 +112,11 @@ pub(crate) fn output_attribute(
             alloc, source, lineage, begins, is_sound, entry, number, name, value, known,
         )?;
         return Ok(None);
+    }
+    if is_gone(source.module.output_for, entry, name) {
+        return gone_value(
+            alloc, isa, source, lineage, entry, number, name, value, strings, known,
+        );
     }
     output_value(
         alloc, isa, source, lineage, entry, number, name, value, strings, known,

@@ -300,7 +300,7 @@ fn clone_itself(
     ensures contexts { walk.new.contexts ≡ walk.old.contexts }
     ensures wrappers { walk.new.opened ≡ walk.old.opened }
     ensures names { walk.new.names ≡ walk.old.names }
-    ensures itself { (number : ℕ) (s : UnitSource) (goals : Goal → Option (ℕ × ℕ)) (bare base : GivenUnit) (placed : PlacedEntry) (e : Addition) → IsSource source.now number s → HasFrames source.now.module source.now.transform.now → ArePlaced source.now.places.now goals → AreInForce (list_source source.now.unit.now.sections source.now.unit.now.header) source.now.transform.now s.entries (placed_entry source.now (entry_view entry.now)) walk.old.lineage → telling ≡ telling_of s.texts s.entries (placed_entry source.now (entry_view entry.now)) → is_wrapped (placed_entry source.now (entry_view entry.now)) ≡ false → AddsBelow (last_parent (entry_view entry.now).depth walk.old.parents.items) id (entry_view entry.now).tag unit.old bare placed → IsLast strings.old placed.id base e bare → GivesItself goals (dwarf_registers isa.now) source.now number s (placed_entry source.now (entry_view entry.now)) strings.old strings.new walk.old.parents.items walk.new.parents.items placed base e unit.new result }
+    ensures itself { (number : ℕ) (s : UnitSource) (goals : Goal → Option (ℕ × ℕ)) (bare base : GivenUnit) (placed : PlacedEntry) (e : Addition) → IsSource source.now number s → HasFrames source.now.module source.now.transform.now → ArePlaced source.now.places.now goals → AreInForce (list_source source.now.unit.now.sections source.now.unit.now.header) source.now.transform.now s.entries (placed_entry source.now (entry_view entry.now)) walk.old.lineage → telling ≡ telling_of s.texts s.entries (placed_entry source.now (entry_view entry.now)) → is_wrapped source.now.module.output_for (placed_entry source.now (entry_view entry.now)) ≡ false → AddsBelow (last_parent (entry_view entry.now).depth walk.old.parents.items) id (entry_view entry.now).tag unit.old bare placed → IsLast strings.old placed.id base e bare → GivesItself goals (dwarf_registers isa.now) source.now number s (placed_entry source.now (entry_view entry.now)) strings.old strings.new walk.old.parents.items walk.new.parents.items placed base e unit.new result }
 {
     let depth = depth_of(entry);
     let room = entry.attrs().len().min(MOST_ROOM);
@@ -372,7 +372,7 @@ pub(crate) fn clone_entry(
     let begins = function.is_some() && has_begin(source, entry);
     let speaks = speaks_of_code(entry);
     let is_sound = walk.lineage.enter(alloc, source, entry, function, speaks)?;
-    if is_wrapped(entry) {
+    if is_wrapped(source.module.output_for, entry) {
         return wrap_entry(
             alloc, isa, source, begins, is_sound, entry, id, walk, unit, strings, known,
         );

@@ -153,22 +153,22 @@ module _ (c : ExpressionSource) (e : Placed) (before : List (ℕ × Value)) (off
   abbrev by_wrapped : Bool → Result (Option DraftValue) LocationRefusal
   by_wrapped wrapped = elim wrapped [ true ↦ (read_expression name (in_force_at c e) (given_expression c e before bytes) >>= λ read. Ok None) | false ↦ (value_of_expression name (in_force_at c e) (given_expression c e before bytes) >>= λ v. Ok (drafted v)) ]
 
-  becomes-by : (wrapped : Bool) → is_wrapped e ≡ wrapped → code_value_becomes c e before name (Values.expression bytes) ≡ told_as (of_location c.told.place) (by_wrapped wrapped)
+  becomes-by : (wrapped : Bool) → is_wrapped c.told.output e ≡ wrapped → code_value_becomes c e before name (Values.expression bytes) ≡ told_as (of_location c.told.place) (by_wrapped wrapped)
   unfolding expression_becomes
   becomes-by wrapped is = ap (λ b. told_as (of_location c.told.place) (by_wrapped b)) is
 
-  pub expression-made : is_wrapped e ≡ false → (t : Option TreeValue) → value_of_expression name force (expression_at bytes here) ≡ Ok t → code_value_becomes c e before name (Values.expression bytes) ≡ Ok (drafted t)
+  pub expression-made : is_wrapped c.told.output e ≡ false → (t : Option TreeValue) → value_of_expression name force (expression_at bytes here) ≡ Ok t → code_value_becomes c e before name (Values.expression bytes) ≡ Ok (drafted t)
   expression-made plain t is =
       let read = value-is-there ∙ value-moved name force bytes (unreadable ExpressionRead here.0 here.1) (unreadable ExpressionRead Info place) ∙ ap (with_fault (unreadable ExpressionRead Info place)) is in
       becomes-by false plain ∙ ap (λ (r : Result (Option TreeValue) LocationRefusal). told_as (of_location c.told.place) (r >>= λ v. Ok (drafted v))) read
 
   -- a refusal of it, told as one of the entry's
-  becomes-told : is_wrapped e ≡ false → (o : Option LocationRefusal) → RefusesTold (value_of_expression name (in_force_at c e) (given_expression c e before bytes)) o → RefusesSo (code_value_becomes c e before name (Values.expression bytes)) (option_map (of_location c.told.place) o)
+  becomes-told : is_wrapped c.told.output e ≡ false → (o : Option LocationRefusal) → RefusesTold (value_of_expression name (in_force_at c e) (given_expression c e before bytes)) o → RefusesSo (code_value_becomes c e before name (Values.expression bytes)) (option_map (of_location c.told.place) o)
   becomes-told plain None tells = tt
   becomes-told plain (Some refusal) tells = becomes-by false plain ∙ ap (λ (r : Result (Option TreeValue) LocationRefusal). told_as (of_location c.told.place) (r >>= λ v. Ok (drafted v))) tells
 
   pub expression-told :
-      is_wrapped e ≡ false → (error : ExprError) (o : Option Refusal) → o ≡ option_map (of_location c.told.place) (told (error_at there error)) → RefusesTold (value_of_expression name force (expression_at bytes here)) (told error)
+      is_wrapped c.told.output e ≡ false → (error : ExprError) (o : Option Refusal) → o ≡ option_map (of_location c.told.place) (told (error_at there error)) → RefusesTold (value_of_expression name force (expression_at bytes here)) (told error)
       → RefusesSo (code_value_becomes c e before name (Values.expression bytes)) o
   expression-told plain error o is tells =
       let at_here = unreadable ExpressionRead here.0 here.1 in
@@ -208,7 +208,7 @@ module _ (c : ExpressionSource) (e : Placed) (before : List (ℕ × Value)) (off
   abbrev read_of : Result (Unit {0}) LocationRefusal
   read_of = read_expression name (in_force_at c e) (given_expression c e before bytes)
 
-  pub wrapped-read : is_wrapped e ≡ true → bound_value_refused c e before name (Values.expression bytes) ≡ None → code_value_becomes c e before name (Values.expression bytes) ≡ Ok None
+  pub wrapped-read : is_wrapped c.told.output e ≡ true → bound_value_refused c e before name (Values.expression bytes) ≡ None → code_value_becomes c e before name (Values.expression bytes) ≡ Ok None
   unfolding expression_refused
   wrapped-read wrapped none = becomes-by true wrapped ∙ go read_of none
     where
@@ -216,7 +216,7 @@ module _ (c : ExpressionSource) (e : Placed) (before : List (ℕ × Value)) (off
       go (Ok done) is = refl
       go (Err refusal) is = absurd (cc)
 
-  pub wrapped-told : is_wrapped e ≡ true → (o : Option Refusal) → IsTold (bound_value_refused c e before name (Values.expression bytes)) o → RefusesSo (code_value_becomes c e before name (Values.expression bytes)) o
+  pub wrapped-told : is_wrapped c.told.output e ≡ true → (o : Option Refusal) → IsTold (bound_value_refused c e before name (Values.expression bytes)) o → RefusesSo (code_value_becomes c e before name (Values.expression bytes)) o
   unfolding expression_refused
   wrapped-told wrapped None told = tt
   wrapped-told wrapped (Some x) told = becomes-by true wrapped ∙ go read_of told
@@ -252,14 +252,14 @@ module _ (c : ExpressionSource) (e : Placed) (before : List (ℕ × Value)) (off
   kind (Values.range_index n) is = absurd (cc)
 
   -- what is located of it, of an entry that is not wrapped
-  pub plain-becomes : is_wrapped e ≡ false → code_value_becomes c e before name v ≡ (told_as list_refusal (value_of_list (lists_of c) force offset v) >>= λ value. Ok (drafted value))
+  pub plain-becomes : is_wrapped c.told.output e ≡ false → code_value_becomes c e before name v ≡ (told_as list_refusal (value_of_list (lists_of c) force offset v) >>= λ value. Ok (drafted value))
   plain-becomes plain =
       kind v list ∙ located-becomes rules.of_list (of_location c.told.place) c e v plain
       ∙ ap (λ f. told_as list_refusal (value_of_list (lists_of c) f e.entry.offset v) >>= λ value. Ok (drafted value)) (sym is_force)
       ∙ ap (λ n. told_as list_refusal (value_of_list (lists_of c) force n v) >>= λ value. Ok (drafted value)) at
 
   -- of one that is wrapped it is read
-  pub wrapped-becomes : is_wrapped e ≡ true → code_value_becomes c e before name v ≡ (told_as list_refusal (read_by (lists_of c) force offset v) >>= λ done. Ok None)
+  pub wrapped-becomes : is_wrapped c.told.output e ≡ true → code_value_becomes c e before name v ≡ (told_as list_refusal (read_by (lists_of c) force offset v) >>= λ done. Ok None)
   wrapped-becomes wrapped =
       kind v list ∙ read-becomes rules.of_list (of_location c.told.place) c e v wrapped
       ∙ ap (λ f. told_as list_refusal (read_by (lists_of c) f e.entry.offset v) >>= λ done. Ok None) (sym is_force)

@@ -207,11 +207,11 @@ module _ {E : Type 0} (list_told : ListRefusal → E) (location_told : LocationR
   abbrev by_wrapped : Bool → List ListedExpression → Result (Option DraftValue) LocationRefusal
   by_wrapped wrapped xs = elim wrapped [ true ↦ (read_locations (in_force_at c e) xs >>= λ read. Ok None) | false ↦ (value_of_locations (in_force_at c e) xs >>= λ value. Ok (drafted value)) ]
 
-  become-by : (wrapped : Bool) → is_wrapped e ≡ wrapped → locations_become list_told location_told c e v ≡ told_as list_told (listed_by c e v) >>= λ xs. told_as location_told (by_wrapped wrapped xs)
+  become-by : (wrapped : Bool) → is_wrapped c.told.output e ≡ wrapped → locations_become list_told location_told c e v ≡ told_as list_told (listed_by c e v) >>= λ xs. told_as location_told (by_wrapped wrapped xs)
   unfolding locations_become
   become-by wrapped is = ap (λ b. told_as list_told (listed_by c e v) >>= λ xs. told_as location_told (by_wrapped b xs)) is
 
-  pub located-becomes : is_wrapped e ≡ false → locations_become list_told location_told c e v ≡ told_as (told_by list_told location_told) (value_of_list (lists_of c) (in_force_at c e) e.entry.offset v) >>= λ value. Ok (drafted value)
+  pub located-becomes : is_wrapped c.told.output e ≡ false → locations_become list_told location_told c e v ≡ told_as (told_by list_told location_told) (value_of_list (lists_of c) (in_force_at c e) e.entry.offset v) >>= λ value. Ok (drafted value)
   located-becomes plain = become-by false plain ∙ go (listed_by c e v)
     where
       values : (r : Result (Option TreeValue) LocationRefusal) → told_as location_told (r >>= λ value. Ok (drafted value)) ≡ (told_as (told_by list_told location_told) (told_as of_expression r) >>= λ value. Ok (drafted value))
@@ -223,7 +223,7 @@ module _ {E : Type 0} (list_told : ListRefusal → E) (location_told : LocationR
       go (Ok xs) = values (value_of_locations (in_force_at c e) xs)
       go (Err refusal) = refl
 
-  pub read-becomes : is_wrapped e ≡ true → locations_become list_told location_told c e v ≡ told_as (told_by list_told location_told) (read_by (lists_of c) (in_force_at c e) e.entry.offset v) >>= λ done. Ok None
+  pub read-becomes : is_wrapped c.told.output e ≡ true → locations_become list_told location_told c e v ≡ told_as (told_by list_told location_told) (read_by (lists_of c) (in_force_at c e) e.entry.offset v) >>= λ done. Ok None
   read-becomes wrapped = become-by true wrapped ∙ go (listed_by c e v)
     where
       gone : {F : Type 0} → Result (Unit {0}) F → Result (Option DraftValue) F

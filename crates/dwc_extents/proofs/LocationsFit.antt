@@ -2,11 +2,10 @@
 use Rattle.std.proofs.Common.{◌≡◌, ℕ, suc, ◌-◌, ◌<◌, ◌≤◌, pos, List, [], ◌∷◌, map, Bool, true, false, Option, Some, None, Result, Ok, Err, refl, sym, ap, subst, arith, inl, inr, true≢false}
 use Rattle.std.specs.Prelude.{All, FitsSigned, IfSome, ◌+ℤ◌, ◌==◌, ◌&&◌, ◌⊎◌, if◌then◌else◌, nat_lt, nat_le, option_map}
 use Rattle.std.specs.Int.{w32}
-use Rattle.std.specs.List.{filter}
 use Rattle.std.specs.Option.{unwrap_or}
 use Rattle.std.proofs.lemmas.Bool.{and_parts, ltb-true, or_cases}
 use Rattle.std.proofs.lemmas.Int.{ints}
-use Rattle.std.proofs.lemmas.List.Elements.{All-append, All-cons, All-head, All-map, All-nil, All-tail, filter_passes}
+use Rattle.std.proofs.lemmas.List.Elements.{All-append, All-cons, All-head, All-map, All-nil, All-tail}
 use Rattle.dwc_base.specs.declared.records.Address.{Address}
 use Rattle.dwc_base.specs.declared.records.Address.TheVariants.{Constant, Symbol}
 use Rattle.dwc_base.specs.declared.constants.TheConstants.{DW_AT_frame_base}
@@ -23,7 +22,7 @@ use Rattle.dwc_dwarf.specs.RawLists.{ListSource}
 use Rattle.dwc_base.specs.Reading.{◌>>=◌}
 use Rattle.dwc_base.specs.Listing.{first_of}
 use Rattle.dwc_native.specs.Runs as runs
-use Rattle.dwc_native.specs.Runs.{as_intervals, end_in, is_range, meets, native, native_in_function, native_ranges, start_in}
+use Rattle.dwc_native.specs.Runs.{as_intervals, is_range, native, native_in_function, native_ranges}
 use Rattle.dwc_dwarf.specs.Trees.{Interval, Location, TreeValue, expression, locations}
 use Rattle.dwc_dwarf.specs.Values.{Value, is_location_name}
 use Rattle.dwc_native.proofs.LabelRangeLaws.{label-ranges}
@@ -39,6 +38,7 @@ use Rattle.dwc_unit.specs.RangeLists.{interval_of}
 use Rattle.dwc_extents.specs.declared.location_value.LocationValue.{LocationValue}
 use Rattle.dwc_extents.specs.LocationListValues.{listed_in, value_of_list, of_expression, of_list}
 use Rattle.dwc_extents.specs.LocationValues.{location_value_view}
+use Rattle.dwc_extents.proofs.NativeRangeLaws.{ranges-have_bytes}
 
 -- ---- intervals
 
@@ -65,14 +65,6 @@ spans-of number (r ∷ rs) some said =
       said = All-head AreSaid (runs.interval_of number r) (map (runs.interval_of number) rs) said;
     })
     (spans-of number rs (All-tail (λ q. is_range q ≡ true) r rs some) (All-tail AreSaid (runs.interval_of number r) (map (runs.interval_of number) rs) said))
-
-some-ranges : (f : Function) (start end : ℕ) → All (λ r. is_range r ≡ true) (native_ranges f start end)
-unfolding native_ranges
-some-ranges f start end = go (nat_lt start end) (map (λ r. (start_in start r, end_in end r)) (filter (meets start end) (runs.runs f)))
-  where
-    go : (b : Bool) (rs : List (ℕ × ℕ)) → All (λ r. is_range r ≡ true) (if b then filter is_range rs else [])
-    go true rs = filter_passes is_range rs
-    go false rs = All-nil (λ r. is_range r ≡ true)
 
 -- ---- ranges of native code
 
@@ -107,7 +99,7 @@ module _ (fs : List Function) (said : TranslationsAreSaid fs) where
     where
       go : (o : Option Function) → All AreSaid (as_intervals (option_map (λ f. (f.number, native_ranges f start end)) o)) → All Spans (as_intervals (option_map (λ f. (f.number, native_ranges f start end)) o))
       go None said = All-nil Spans
-      go (Some f) said = spans-of f.number (native_ranges f start end) (some-ranges f start end) said
+      go (Some f) said = spans-of f.number (native_ranges f start end) (ranges-have_bytes f start end) said
 
   native-ends : (start end : ℕ) → All EndIsSaid (ranges_in_function (native_in_function fs start end))
   unfolding native

@@ -2,12 +2,14 @@
 use Rattle.std.proofs.Common.{◌≡◌, ℕ, ◌+◌, ◌-◌, ◌^◌, ◌<◌, zero, suc, pos, List, [], ◌∷◌, ◌++◌, refl, ap, ap₂, sym, subst, ◌∙◌, arith, append_assoc, append-nil, Bool, true, false, Option, Some, None, Result, Ok, Err}
 use Rattle.std.specs.Prelude.{ℤ, map, All, OnOk, nat_lt, ◌||◌, is_some, if◌then◌else◌, option_map}
 use Rattle.std.specs.List.{filter, flat_map, filter_map}
-use Rattle.std.proofs.lemmas.Bool.{ltb-true}
+use Rattle.std.proofs.lemmas.Bool.{lt-ltb, ltb-true}
 use Rattle.std.proofs.lemmas.List.{map-append}
 use Rattle.std.proofs.lemmas.List.Elements.{All-append, All-cons, All-head, All-nil, All-tail, filter_map-append, filter_passes}
 use Rattle.std.proofs.lemmas.Grind.{flat_map-append}
 use Rattle.dwc_base.specs.declared.records.Address.{Address}
 use Rattle.dwc_base.specs.declared.records.Address.TheVariants.{Constant, Symbol}
+use Rattle.dwc_base.specs.declared.records.OutputFor.{OutputFor}
+use Rattle.dwc_base.specs.declared.records.OutputFor.TheVariants.{Default, Debugger}
 use Rattle.dwc_base.specs.declared.section_name.SectionName.{SectionName}
 use Rattle.dwc_base.specs.declared.section_name.SectionName.TheVariants.{Info}
 use Rattle.dwc_base.specs.declared.faults.What.{What}
@@ -17,6 +19,7 @@ use Rattle.dwc_base.specs.declared.faults.Flaw.TheVariants.{EndsEarly, TooWide, 
 use Rattle.dwc_native.specs.Addends.{AreSaid, IsSaid, TranslationsAreSaid}
 use Rattle.dwc_native.specs.Functions.{Function, function_at}
 use Rattle.dwc_base.specs.Listing.{Listing, only_fault, with_first, first_of}
+use Rattle.dwc_native.specs.ShownSources.{Apart, exact_ranges}
 use Rattle.dwc_native.specs.Runs as runs
 use Rattle.dwc_native.specs.Runs.{start_in, end_in, meets, is_range, native, native_in_function, native_ranges, as_intervals}
 use Rattle.dwc_base.specs.Sections.{Sections, Fault, fault_of, reported}
@@ -26,6 +29,7 @@ use Rattle.dwc_dwarf.specs.Values.{Value}
 use Rattle.dwc_dwarf.specs.RawLists.{ListSource, ListPlace, list_named}
 use Rattle.dwc_dwarf.specs.Lists.{ListRefusal, of_place, list_source, list_of_value, ranges_at, ranges_of_value}
 use Rattle.dwc_native.specs.ScopesKept.{native_of_intervals, wasm_interval}
+use Rattle.dwc_addr.proofs.ShownLaws.{maximal}
 use Rattle.dwc_addr.specs.Translations.{with_length, with_lengths}
 use Rattle.dwc_read.specs.Faults.{fault_at}
 use Rattle.dwc_tabs.specs.declared.list_fault.ListFault.{ListFault}
@@ -79,13 +83,20 @@ module _ (number : ℕ) where
       (fits-with_length r (ltb-true r.0 r.1 (All-head (λ q. is_range q ≡ true) r rs h)) (All-head AreSaid (runs.interval_of number r) (map (runs.interval_of number) rs) said) size)
       (fit-ranges size rs (All-tail (λ q. is_range q ≡ true) r rs h) (All-tail AreSaid (runs.interval_of number r) (map (runs.interval_of number) rs) said))
 
-ranges-have_bytes : (f : Function) (start end : ℕ) → All (λ r. is_range r ≡ true) (native_ranges f start end)
+-- ranges that are apart have bytes
+apart-have_bytes : (from to : ℕ) (rs : List (ℕ × ℕ)) → Apart from to rs → All (λ r. is_range r ≡ true) rs
+apart-have_bytes from to [] apart = All-nil (λ r. is_range r ≡ true)
+apart-have_bytes from to (r ∷ rs) apart = All-cons (λ r. is_range r ≡ true) r rs (lt-ltb r.0 r.1 apart.1) (apart-have_bytes (suc r.1) to rs apart.3)
+
+-- The native ranges of an interval have bytes, for any output.
+pub ranges-have_bytes : (f : Function) (start end : ℕ) → All (λ r. is_range r ≡ true) (native_ranges f start end)
 unfolding native_ranges
-ranges-have_bytes f start end = go (nat_lt start end) (map (λ r. (start_in start r, end_in end r)) (filter (meets start end) (runs.runs f)))
+ranges-have_bytes f start end = go f.output (nat_lt start end) (map (λ r. (start_in start r, end_in end r)) (filter (meets start end) (runs.runs f)))
   where
-    go : (b : Bool) (rs : List (ℕ × ℕ)) → All (λ r. is_range r ≡ true) (if b then filter is_range rs else [])
-    go true rs = filter_passes is_range rs
-    go false rs = All-nil (λ r. is_range r ≡ true)
+    go : (o : OutputFor) (b : Bool) (rs : List (ℕ × ℕ)) → All (λ r. is_range r ≡ true) (elim o [ Default ↦ (if b then filter is_range rs else []) | Debugger ↦ exact_ranges f start end ])
+    go Default true rs = filter_passes is_range rs
+    go Default false rs = All-nil (λ r. is_range r ≡ true)
+    go Debugger b rs = apart-have_bytes 0 f.length (exact_ranges f start end) (maximal f start end)
 
 -- What an interval is translated to is said by ranges.
 are-translated : (fs : List Function) (start end : ℕ) → All AreSaid (native fs start end) → AreRanges (with_lengths (native_in_function fs start end)) (native fs start end)

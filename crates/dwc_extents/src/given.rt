@@ -5,25 +5,37 @@ ghost use Rattle.dwc_dwarf.specs.Entries.{attribute};
 ghost use Rattle.dwc_dwarf.specs.Lists.{list_source};
 ghost use Rattle.dwc_rules.specs.LocationAttributes.{base_of_expression};
 ghost use Rattle.dwc_rules.specs.RangeAttributes.{begun_function};
-ghost use Rattle.dwc_rules.specs.Scopes.{base_given, scope_given, source_range};
+ghost use Rattle.dwc_rules.specs.Scopes.{base_given, scope_given, source_end, source_range};
 ghost use Rattle.dwc_addr.specs.Transforms.{function_view};
 ghost use Rattle.dwc_read.specs.EntriesSeen.{entry_view};
 ghost use Rattle.dwc_extents.specs.BoundRefusals.{IsSound};
 
 use crate::wasm_intervals::{Scope, intervals_of};
 use dwc_addr::FunctionMap;
+use dwc_base::OutputFor;
 use dwc_base::constants::{DW_AT_frame_base, DW_AT_high_pc, DW_AT_ranges, DW_TAG_subprogram};
 use dwc_expr::{CompiledExpression, ExprError, compile_expression};
 use dwc_read::{AttributeValue, Entry};
 use dwc_source::CloneSource;
 use std::alloc::{AllocError, Global};
 
-// Where a function begins and ends in the wasm file.
+/// Where the source range of a function ends in the wasm file, counted from the contents of the code section: where the function does, for
+/// a debugger, to whom an end is left out, behind its last source.
+pub fn source_end(function: &FunctionMap<'_>) -> u64
+    ensures { result ≡ source_end (function_view function.now) }
+{
+    match function.output_for {
+        OutputFor::Default => function.wasm_end,
+        OutputFor::Debugger => function.wasm_end + 1,
+    }
+}
+
+// The source range of a function in the wasm file.
 fn source_range(alloc: Global, function: &FunctionMap<'_>) -> Result<Scope, AllocError>
     ensures { IfOk result (λ scope. scope.items ≡ source_range (function_view function.now)) }
 {
     let mut scope = Scope::new(alloc);
-    scope.push((function.wasm_start, function.wasm_end))?;
+    scope.push((function.wasm_start, source_end(function)))?;
     Ok(scope)
 }
 

@@ -21,6 +21,7 @@ mod wasm_intervals;
 pub use bounds::check_bound;
 pub use code_names::speaks_of_code;
 pub use extent::{NativeExtent, carried_address, extent_by_scope};
+pub use given::source_end;
 pub use in_force::{InForce, frame_in_force, in_force_by};
 pub use inherited_attr::InheritedAttr;
 pub use lineage::Lineage;

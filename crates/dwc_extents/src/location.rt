@@ -113,7 +113,7 @@ pub fn output_expression(
 {
     let frame = frame_in_force(source, lineage);
     let in_force = in_force_by(lineage, frame.as_ref());
-    if is_wrapped(entry) {
+    if is_wrapped(source.module.output_for, entry) {
         check_attribute_expression(alloc, source, &in_force, entry.offset, number, name, bytes)?;
         return Ok(None);
     }
@@ -159,7 +159,7 @@ pub fn output_locations(
 {
     let frame = frame_in_force(source, lineage);
     let in_force = in_force_by(lineage, frame.as_ref());
-    if is_wrapped(entry) {
+    if is_wrapped(source.module.output_for, entry) {
         check_locations(alloc, source, &in_force, entry.offset, value)?;
         return Ok(None);
     }
@@ -189,7 +189,7 @@ fn check_locations(
     value: InputValue<'_>,
 ) -> Result<(), CloneError>
     requires list { IsTrue (is_location_list (value_view value)) }
-    ensures { (registers : Registers) (s : UnitSource) (e : Placed) (before : List (ℕ × Value)) (name : ℕ) → e.entry.offset ≡ offset → is_wrapped e ≡ true → IsInForce registers source.now s e in_force.now → GivesMade (λ draft done. draft ≡ None) (code_value_becomes (source_with registers source.now s) e before name (value_view value.entry)) result }
+    ensures { (registers : Registers) (s : UnitSource) (e : Placed) (before : List (ℕ × Value)) (name : ℕ) → e.entry.offset ≡ offset → is_wrapped source.now.module.output_for e ≡ true → IsInForce registers source.now s e in_force.now → GivesMade (λ draft done. draft ≡ None) (code_value_becomes (source_with registers source.now s) e before name (value_view value.entry)) result }
 {
     match check_location_list(alloc, source.unit, in_force, offset, value) {
         Ok(()) => Ok(()),

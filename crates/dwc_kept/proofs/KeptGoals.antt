@@ -11,6 +11,7 @@ use Rattle.dwc_rules.specs.Drafts.{Role, Draft, itself}
 use Rattle.dwc_rules.specs.DraftForests.{role_number, is_made_of}
 use Rattle.dwc_rules.specs.Carried.{Module}
 use Rattle.dwc_dwarf.specs.ReadUnits.{Unit}
+use Rattle.dwc_base.specs.declared.records.OutputFor.{OutputFor}
 use Rattle.dwc_rules.specs.Kept.{Placed}
 use Rattle.dwc_rules.specs.KeptModules.{kept_in}
 use Rattle.dwc_rules.specs.Scopes.{Rises}
@@ -168,23 +169,23 @@ or-true : (b : Bool) → (b || true) ≡ true
 or-true true = refl
 or-true false = refl
 
-module _ (offset : ℕ) where
+module _ (output : OutputFor) (offset : ℕ) where
   -- of the entries of a unit some are made of the one at an offset exactly where it is one of them
-  no-sources : (role : Role) (n : ℕ) (es : List Entry) → list_any (λ k. k == offset) (map (λ e. e.offset) es) ≡ false → many (is_source offset role) (placed_at n es) ≡ 0
+  no-sources : (role : Role) (n : ℕ) (es : List Entry) → list_any (λ k. k == offset) (map (λ e. e.offset) es) ≡ false → many (is_source output offset role) (placed_at n es) ≡ 0
   no-sources role n [] none = refl
-  no-sources role n (e ∷ es) none = go (e.offset == offset) none (is_wrapped (record { unit = n; entry = e }) || (role_number role == 0)) (no-sources role n es)
+  no-sources role n (e ∷ es) none = go (e.offset == offset) none (is_wrapped output (record { unit = n; entry = e }) || (role_number role == 0)) (no-sources role n es)
     where
-      go : (b : Bool) → (b || list_any (λ k. k == offset) (map (λ e. e.offset) es)) ≡ false → (wrapped : Bool) → (list_any (λ k. k == offset) (map (λ e. e.offset) es) ≡ false → many (is_source offset role) (placed_at n es) ≡ 0)
-          → (if b && wrapped then 1 else 0) + many (is_source offset role) (placed_at n es) ≡ 0
+      go : (b : Bool) → (b || list_any (λ k. k == offset) (map (λ e. e.offset) es)) ≡ false → (wrapped : Bool) → (list_any (λ k. k == offset) (map (λ e. e.offset) es) ≡ false → many (is_source output offset role) (placed_at n es) ≡ 0)
+          → (if b && wrapped then 1 else 0) + many (is_source output offset role) (placed_at n es) ≡ 0
       go true is wrapped others = absurd (true≢false is)
       go false is wrapped others = omega (arith, others is)
 
-  some-source : (n : ℕ) (es : List Entry) → list_any (λ k. k == offset) (map (λ e. e.offset) es) ≡ true → 1 ≤ many (is_source offset itself) (placed_at n es)
+  some-source : (n : ℕ) (es : List Entry) → list_any (λ k. k == offset) (map (λ e. e.offset) es) ≡ true → 1 ≤ many (is_source output offset itself) (placed_at n es)
   some-source n [] some = absurd (true≢false (sym some))
-  some-source n (e ∷ es) some = go (e.offset == offset) some (is_wrapped (record { unit = n; entry = e }) || true) (or-true (is_wrapped (record { unit = n; entry = e }))) (some-source n es)
+  some-source n (e ∷ es) some = go (e.offset == offset) some (is_wrapped output (record { unit = n; entry = e }) || true) (or-true (is_wrapped output (record { unit = n; entry = e }))) (some-source n es)
     where
-      go : (b : Bool) → (b || list_any (λ k. k == offset) (map (λ e. e.offset) es)) ≡ true → (all : Bool) → all ≡ true → (list_any (λ k. k == offset) (map (λ e. e.offset) es) ≡ true → 1 ≤ many (is_source offset itself) (placed_at n es))
-          → 1 ≤ (if b && all then 1 else 0) + many (is_source offset itself) (placed_at n es)
+      go : (b : Bool) → (b || list_any (λ k. k == offset) (map (λ e. e.offset) es)) ≡ true → (all : Bool) → all ≡ true → (list_any (λ k. k == offset) (map (λ e. e.offset) es) ≡ true → 1 ≤ many (is_source output offset itself) (placed_at n es))
+          → 1 ≤ (if b && all then 1 else 0) + many (is_source output offset itself) (placed_at n es)
       go true is true h others = omega arith
       go true is false h others = absurd (true≢false (sym h))
       go false is all h others = omega (arith, others is)
@@ -242,15 +243,15 @@ module _ (c : Module) (m : KeptModule) (is : IsKeptModule c.functions c.sections
       pub made-none : (role : Role) → stands_in m.kept offset r ≡ false → position (is_made_of offset role) (drafted source big_endian c r) ≡ None
       made-none role none =
           made-nowhere (source read) (source_of (kept_of c) read) big_endian offset role (kept_in (kept_of c) read)
-          (ap (many (is_source offset role)) (read-entries c m is r i) ∙ no-sources offset role r.unit.header.offset (kept_of_unit m.kept read) (sym by-entries ∙ none))
+          (ap (many (is_source (source read).told.output offset role)) (read-entries c m is r i) ∙ no-sources (source read).told.output offset role r.unit.header.offset (kept_of_unit m.kept read) (sym by-entries ∙ none))
 
       -- and in the one in which it is something is made of it itself.
       pub made-some : stands_in m.kept offset r ≡ true → is_some (position (is_made_of offset itself) (drafted source big_endian c r)) ≡ true
       made-some some =
           let test = is_made_of offset itself in
           let drafts = drafted source big_endian c r in
-          let sources : 1 ≤ many (is_source offset itself) (kept_in (kept_of c) read) =
-          subst (λ (es : List Placed). 1 ≤ many (is_source offset itself) es) (sym (read-entries c m is r i)) (some-source offset r.unit.header.offset (kept_of_unit m.kept read) (sym by-entries ∙ some)) in
+          let sources : 1 ≤ many (is_source (source read).told.output offset itself) (kept_in (kept_of c) read) =
+          subst (λ (es : List Placed). 1 ≤ many (is_source (source read).told.output offset itself) es) (sym (read-entries c m is r i)) (some-source (source read).told.output offset r.unit.header.offset (kept_of_unit m.kept read) (sym by-entries ∙ some)) in
           ap is_some (position_from-zero test drafts)
           ∙ position-some test 0 drafts (many-any test drafts (subst (λ n. 1 ≤ n) (sym (made-many (source read) (source_of (kept_of c) read) big_endian offset itself (kept_in (kept_of c) read))) sources))
 
@@ -258,7 +259,7 @@ module _ (c : Module) (m : KeptModule) (is : IsKeptModule c.functions c.sections
       pub made-at : (role : Role) (before behind : List Draft) (d : Draft) → drafted source big_endian c r ≡ before ++ d ∷ behind → is_made_of offset role d ≡ true → position (is_made_of offset role) (drafted source big_endian c r) ≡ Some (length before)
       made-at role before behind d is_there made =
           made-place (source read) (source_of (kept_of c) read) big_endian offset role (kept_in (kept_of c) read) before behind d is_there made
-          (sources-once 0 offset role (kept_in (kept_of c) read) (rises 0 (kept_in (kept_of c) read) (rising-filter (λ e. e.unit == r.unit.header.offset) 0 (kept_of c).kept (kept-rising (kept_of c) are))))
+          (sources-once (source read).told.output 0 offset role (kept_in (kept_of c) read) (rises 0 (kept_in (kept_of c) read) (rising-filter (λ e. e.unit == r.unit.header.offset) 0 (kept_of c).kept (kept-rising (kept_of c) are))))
 
     -- The place of what is made of an entry in a role is in the carried unit in which the entry's offset stands, at its place there.
     pub goal-place : (role : Role) (number : ℕ) → place_among (is_made_of offset role) number (carried_drafts source big_endian (kept_of c))

@@ -208,14 +208,14 @@ module _ (c : Module) (m : KeptModule) (is : IsKeptModule c.functions c.sections
             not-made = nothing-first (place_among (is_made_of offset itself) (suc first) (carried_drafts (expressions_of c) big_endian (kept_of c))) (goal-unit c m is offset (expressions_of c) big_endian (suc first) ∙ ap (option_map {T = ℕ × ℕ} (λ x. x.0)) nowhere)
 
     -- what a wrapped entry of a unit becomes in any role
-    wrapped-put : (front more : List ReadUnit) (r : ReadUnit) → carried m ≡ front ++ r ∷ more → (e : Placed) → IsIn e (kept_in (kept_of c) (unit_read c.sections r.unit.header)) → is_wrapped e ≡ true → (role : Role)
+    wrapped-put : (front more : List ReadUnit) (r : ReadUnit) → carried m ≡ front ++ r ∷ more → (e : Placed) → IsIn e (kept_in (kept_of c) (unit_read c.sections r.unit.header)) → is_wrapped c.told.output e ≡ true → (role : Role)
         → IsPut at (goals (suc first + length front)) places (made_of e.entry.offset role)
     wrapped-put front more r units_are e i wrapped role =
         let u = unit_read c.sections r.unit.header in
-        let source : is_source e.entry.offset role e ≡ true = ap₂ (λ (a b : Bool). a && (b || (role_number role == 0))) (eq-eqb e.entry.offset e.entry.offset refl) wrapped in
+        let source : is_source c.told.output e.entry.offset role e ≡ true = ap₂ (λ (a b : Bool). a && (b || (role_number role == 0))) (eq-eqb e.entry.offset e.entry.offset refl) wrapped in
         made-put front more r units_are e.entry.offset role
         (many-any (is_made_of e.entry.offset role) (drafts r)
-        (subst (λ n. 1 ≤ n) (sym (made-many (expressions_of c u) (source_of (kept_of c) u) big_endian e.entry.offset role (kept_in (kept_of c) u))) (many-in (is_source e.entry.offset role) (kept_in (kept_of c) u) e i source)))
+        (subst (λ n. 1 ≤ n) (sym (made-many (expressions_of c u) (source_of (kept_of c) u) big_endian e.entry.offset role (kept_in (kept_of c) u))) (many-in (is_source c.told.output e.entry.offset role) (kept_in (kept_of c) u) e i source)))
 
     -- an entry of the module's synthetic unit
     synthetic-put : (number place : ℕ) → place < length (synthetic_unit c.told.names.set_memory c.told.memory) → IsPut at (goals number) places (synthetic_entry place)
@@ -226,7 +226,7 @@ module _ (c : Module) (m : KeptModule) (is : IsKeptModule c.functions c.sections
 
     -- The numbers of all goals of a carried unit lead to their places.
     pub goals-put : (front more : List ReadUnit) (r : ReadUnit) → carried m ≡ front ++ r ∷ more
-        → GoalsHave (IsPut at (goals (suc first + length front)) places) c.told.memory (kept_in (kept_of c) (unit_read c.sections r.unit.header))
+        → GoalsHave (IsPut at (goals (suc first + length front)) places) c.told.output c.told.memory (kept_in (kept_of c) (unit_read c.sections r.unit.header))
     goals-put front more r units_are =
         let synthetic = synthetic-pointers c.told.names.set_memory c.told.memory in
         let unit = suc first + length front in

@@ -2,6 +2,7 @@
 use Rattle.std.specs.Prelude.{◌≡◌, ℕ, ◌≤◌, ◌<◌, ◌+◌, List, [], map, length, Option, IfSome, All}
 use Rattle.std.specs.Option.{unwrap_or}
 use Rattle.std.specs.FinMap as finite
+use Rattle.dwc_base.specs.declared.records.OutputFor.{OutputFor}
 use Rattle.dwc_native.specs.Compiled.{LabelRange, LinkageNames, ToldModule, frames_from, labels_from, values_from}
 use Rattle.dwc_native.specs.CallFrames.{FrameDescription}
 use Rattle.dwc_native.specs.Functions.{Function}
@@ -34,9 +35,10 @@ frames_in fs = map (λ f. description_of_metadata f.1) fs
 abbrev pub names_view : declared.LinkageNames → LinkageNames
 names_view n = record { set_memory = n.set_memory.now; resolve_memory = n.resolve_memory.now }
 
--- what is told of the module at a place, of whose functions the first has a number, for a target that numbers registers
-abbrev pub told_module : ℕ → ℕ → List Compiled → ModuleMemoryOffset → Registers → LinkageNames → ToldModule
-told_module place first fs memory registers names = record {
+-- what is told, for some output, of the module at a place, of whose functions the first has a number, for a target that numbers registers
+abbrev pub told_module : OutputFor → ℕ → ℕ → List Compiled → ModuleMemoryOffset → Registers → LinkageNames → ToldModule
+told_module output place first fs memory registers names = record {
+  output = output;
   place = place;
   values = values_from first (values_in fs);
   labels = labels_from first (labels_in fs);
@@ -47,7 +49,7 @@ told_module place first fs memory registers names = record {
 }
 
 abbrev pub told_by : Registers → CompiledModule → ToldModule
-told_by registers m = told_module m.place m.first_number m.functions.now m.memory registers (names_view m.names)
+told_by registers m = told_module m.output_for m.place m.first_number m.functions.now m.memory registers (names_view m.names)
 
 -- The functions with a symbol are numbered by it, from one on, fewer than said.
 abbrev pub AreNumberedFrom : ℕ → ℕ → List Function → Type 0

@@ -8,7 +8,7 @@ ghost use Rattle.dwc_expr.specs.Frames.{frame_view};
 ghost use Rattle.dwc_source.specs.CompiledModules.{told_by};
 
 use dwc_addr::LinkageNames;
-use dwc_base::SymbolId;
+use dwc_base::{OutputFor, SymbolId};
 use dwc_compiled::CompiledFunctionMetadata;
 use dwc_expr::FunctionFrameInfo;
 use dwc_isa::ModuleMemoryOffset;
@@ -16,6 +16,8 @@ use dwc_isa::ModuleMemoryOffset;
 /// What a code generator tells of a module beside its address maps.
 #[derive(Clone, Copy)]
 pub struct CompiledModule<'c> {
+    /// Whom the output is for.
+    pub output_for: OutputFor,
     /// The module's place among all.
     pub place: u32,
     /// Its functions in order, each with its symbol, if it has one.

@@ -15,7 +15,9 @@ pub use compiled_module::CompiledModule;
 pub use error::{CloneError, of_memory};
 pub use files::UnitFiles;
 pub use known_texts::KnownTexts;
-pub use names::{is_bound_name, is_dropped_name, is_file_name, is_location_name, is_wrapped};
+pub use names::{
+    is_bound_name, is_dropped_name, is_file_name, is_gone, is_location_name, is_wrapped,
+};
 pub use places::{OutputPlace, Places};
 pub use source::CloneSource;
 pub use text::{add_text, check_text, text_of, text_place_of};

@@ -1,10 +1,11 @@
-use Rattle.std.proofs.Common.{ℕ, IfSome, ap, sym, subst, ◌∙◌, Ok}
+use Rattle.std.proofs.Common.{ℕ, IfSome, ap, sym, subst, ◌∙◌, true, false, Ok}
 use Rattle.std.proofs.lemmas.Bool.{eq-eqb, ne_eqb}
 use Rattle.std.proofs.lemmas.Result.{err_from_is_err_and}
 use Rattle.dwc_base.specs.declared.constants.TheConstants.{DW_AT_stmt_list}
 use Rattle.dwc_dwarf.specs.Lists.{list_source}
 use Rattle.dwc_rules.specs.RangeRefusals.{begins_by_low_pc}
 use Rattle.dwc_rules.specs.Clones.{table_becomes}
+use Rattle.dwc_rules.specs.EntryRules.{is_gone}
 use Rattle.dwc_read.specs.EntriesSeen.{entry_view}
 use Rattle.dwc_read.specs.ValuesSeen.{attribute_view}
 use Rattle.dwc_unit.specs.GivenUnits.{FitsValue}
@@ -63,6 +64,19 @@ returns-then-is_bound_name-clause-made g c = λ unit s e before source at entry 
     let read = c.in_ok-check_bound.ensures.made c.args.strings.now c.requires.known registers s e before source.texts entry begins seen force in
     made-none c.args.source.now.places.now unit a.0 c.args.strings.now _ (is ∙ (read.is ∙ ap Ok read.made))
 
+pub returns-then-is_gone-clause-made : goal.returns-then-is_gone-clause-made
+returns-then-is_gone-clause-made g c = λ unit s e before source at entry seen force.
+    let registers = (goal.TargetIsa-dyn g c.args.isa.now).dwarf_registers c.args.isa.now.1 in
+    let rules = clone_rules registers c.args.source.now s in
+    let a = attribute_view c.args.attribute.now in
+    let kept = sym c.is_dropped_name.ensures ∙ c.if-is_dropped_name.false in
+    let other = ne_eqb c.args.attribute.now.0 DW_AT_stmt_list c.if-name-eq-DW_AT_stmt_list.false in
+    let bound = sym c.is_bound_name.ensures ∙ c.if-is_bound_name.false in
+    let goes = ap (λ x. is_gone c.args.source.now.module.output_for x a.0) entry ∙ (sym c.is_gone.ensures ∙ c.if-is_gone.true) in
+    let is = attribute-value rules s e before a true goes kept other bound in
+    let count = before-many (entry_view c.args.entry.now).attributes before c.args.number seen c.requires.within in
+    subst (λ read. GivesMade (SaysMore c.args.source.now.places.now unit a.0 c.args.strings.now c.gone_value.new.strings) read c.gone_value.result) (sym is) (c.gone_value.ensures.made unit s e before source at entry count force)
+
 pub returns-clause-made : goal.returns-clause-made
 returns-clause-made g c = λ unit s e before source at entry seen force.
     let registers = (goal.TargetIsa-dyn g c.args.isa.now).dwarf_registers c.args.isa.now.1 in
@@ -71,6 +85,7 @@ returns-clause-made g c = λ unit s e before source at entry seen force.
     let kept = sym c.is_dropped_name.ensures ∙ c.if-is_dropped_name.false in
     let other = ne_eqb c.args.attribute.now.0 DW_AT_stmt_list c.if-name-eq-DW_AT_stmt_list.false in
     let bound = sym c.is_bound_name.ensures ∙ c.if-is_bound_name.false in
-    let is = attribute-value rules s e before a kept other bound in
+    let stays = ap (λ x. is_gone c.args.source.now.module.output_for x a.0) entry ∙ (sym c.is_gone.ensures ∙ c.if-is_gone.false) in
+    let is = attribute-value rules s e before a false stays kept other bound in
     let count = before-many (entry_view c.args.entry.now).attributes before c.args.number seen c.requires.within in
     subst (λ read. GivesMade (SaysMore c.args.source.now.places.now unit a.0 c.args.strings.now c.output_value.new.strings) read c.output_value.result) (sym is) (c.output_value.ensures.made unit s e before source at entry count force)

@@ -116,7 +116,7 @@ returns-then-is_wrapped-clause-cloned g c number s roles es others old begun sou
     let new = c.wrap_entry.new.strings in
     let v = c.wrap_entry.new.unit in
     let here = this-emitted src number s source es others x emitted walked in
-    let takes : TakesRoles roles (numbers_in u0) p = (so.numbers).0 in
+    let takes : TakesRoles c.args.source.now.module.output_for roles (numbers_in u0) p = (so.numbers).0 in
     gives-wrapped_cloned registers src number s roles es x others old t0 begun u0 parents ws0 c.args.walk.now.lineage c.args.walk.now.contexts c.args.walk.now.names so id u1 v before behind new path c.wrap_entry.new.walk.lineage c.wrap_entry.new.walk.contexts c.wrap_entry.new.walk.names count
     (λ made.
     let both = can-wrapped registers src number s roles x others old t0 begun u0 ws0 es parents source (length u0.places) id standing c.requires.wrappers wrapped add placed_at takes before behind new path v (sym still) (subst (λ w. IsWrapped registers src s p t0 new parents path id before behind w v) unit_is made) in

@@ -5,7 +5,6 @@ use Rattle.dwc_rules.specs.Clones.{endianity}
 use Rattle.dwc_rules.specs.ContextVariable.{context_over}
 use Rattle.dwc_rules.specs.DraftForests.{settled}
 use Rattle.dwc_dwarf.specs.Lists.{list_source}
-use Rattle.dwc_rules.specs.RangeAttributes.{range_attributes}
 use Rattle.dwc_extents.specs.CodeSources.{source_with}
 use Rattle.dwc_read.specs.EntriesSeen.{entry_view}
 use Rattle.dwc_clone.specs.declared.entry.PlacedEntry.{PlacedEntry}
@@ -14,6 +13,7 @@ use Rattle.dwc_clone.specs.ContextPlaces.{AddsVariable}
 use Rattle.dwc_clone.specs.ClonedEntries.{AddsBelow, IsGiven, IsLast, last_parent, values_wanted}
 use Rattle.dwc_source.specs.Sources.{placed_entry}
 use Rattle.dwc_clone.specs.OpenWrappers.{KeepsNumbers}
+use Rattle.dwc_clone.specs.PlainEntries.{code_said}
 use Rattle.dwc_clone.specs.Tellings.{tell_of}
 use Rattle.dwc_clone.proofs.EntryValues.{given-last, given-on, on-ok, succeeded}
 use Rattle.dwc_clone.proofs.ItselfLaws.{attributes-refused, gives-itself}
@@ -43,7 +43,7 @@ returns-in_err-set_attributes-clause-itself g c number s goals bare base placed 
     let same = adds-same (last_parent x.depth parents) c.args.id x.tag u0 bare u1 placed real adds real_adds in
     let last1 = subst (λ (i : PlacedEntry). IsLast t0 i.id base e u1) (sym same.1) (subst (λ v. IsLast t0 placed.id base e v) (sym same.0) last) in
     let bounds = succeeded c.set_code.result c.in_ok-of_memory.field-0 c.in_ok-of_memory.ensures (c.set_code.ensures.given number t0 base e last1) in
-    let last2 = given-last number t0 t0 (range_attributes (list_source src.unit.now.sections src.unit.now.header) src.transform.now x) real.id base e u1 u2 last1 bounds in
+    let last2 = given-last number t0 t0 (code_said src x) real.id base e u1 u2 last1 bounds in
     let refused = c.in_err-set_attributes.ensures.given number s goals base bounds.given source at last2 (frames, force) in
     let q = err_from_is_err_and c.from_residual-in_err-set_attributes.result c.from_residual-in_err-set_attributes.ensures.1 in
     rw (q.1, q.2) (attributes-refused registers src s p plain (refusal_told c.in_err-set_attributes.field-0.0) refused)
@@ -99,9 +99,9 @@ returns-clause-itself g c number s goals bare base placed e source frames at for
     let same = adds-same (last_parent x.depth parents) c.args.id x.tag u0 bare u1 placed real adds real_adds in
     let last1 = subst (λ (i : PlacedEntry). IsLast t0 i.id base e u1) (sym same.1) (subst (λ v. IsLast t0 placed.id base e v) (sym same.0) last) in
     let bounds = succeeded c.set_code.result c.in_ok-of_memory.field-0 c.in_ok-of_memory.ensures (c.set_code.ensures.given number t0 base e last1) in
-    let last2 = given-last number t0 t0 (range_attributes (list_source src.unit.now.sections src.unit.now.header) src.transform.now x) real.id base e u1 u2 last1 bounds in
+    let last2 = given-last number t0 t0 (code_said src x) real.id base e u1 u2 last1 bounds in
     let t1 = c.set_attributes.new.strings in
-    let bounds_said = range_attributes (list_source src.unit.now.sections src.unit.now.header) src.transform.now x in
+    let bounds_said = code_said src x in
     let values_said = values_wanted goals (tell_of c.args.telling s.entries p) registers src s p [] x.attributes in
     let order_said = filter_map (settled goals) (endianity src.big_endian p) in
     let u3 = c.set_attributes.new.unit in
