@@ -2,6 +2,7 @@
 use Rattle.std.proofs.Common.{◌≡◌, ℕ, pos, negsuc, List, [], ◌∷◌, ◌++◌, Some, None, true, false, refl}
 use Rattle.std.specs.Prelude.{Bool, Option, codes, is_some, map}
 use Rattle.std.specs.FinMap as finite
+use Rattle.dwc_base.specs.declared.records.OutputFor.TheVariants.{Default, Debugger}
 use Rattle.dwc_native.specs.CallFrames.{FrameDescription, def_cfa, remember_state}
 use Rattle.dwc_native.specs.Functions.{AddressMap}
 use Rattle.dwc_isa.specs.declared.architecture.Architecture.TheVariants.{Aarch64, Pulley}
@@ -31,13 +32,14 @@ plain : HasValue (codes "{\"target\":{\"arch\":\"pulley\"},\"names\":[\"a\",\"b\
 unfolding map_on_literals
 plain = refl
 
--- the byte order is little, pointers have 8 bytes, DWARF of version 4 is written and no register has a number where nothing is said
-target_defaults : target_in (map_of_bytes (1 ∷ []) (codes "{\"target\":{\"arch\":\"pulley\"},\"names\":[\"a\",\"b\"],\"modules\":[{\"functions\":[{\"symbol\":7,\"start\":22,\"end\":33,\"body_len\":30,\"map\":[[5,25]]}]}]}")) ≡ Some (record { architecture = Pulley; big_endian = false; pointer_bytes = 8; version = 4; registers = finite.empty; common_entry = None })
+-- Where nothing is said, the byte order is little, pointers have 8 bytes, DWARF of version 4 is written by the default rules, and no
+-- register has a number.
+target_defaults : target_in (map_of_bytes (1 ∷ []) (codes "{\"target\":{\"arch\":\"pulley\"},\"names\":[\"a\",\"b\"],\"modules\":[{\"functions\":[{\"symbol\":7,\"start\":22,\"end\":33,\"body_len\":30,\"map\":[[5,25]]}]}]}")) ≡ Some (record { architecture = Pulley; big_endian = false; pointer_bytes = 8; version = 4; output = Default; registers = finite.empty; common_entry = None })
 unfolding map_on_literals
 target_defaults = refl
 
--- a target that tells all three
-target_told : target_in (map_of_bytes (1 ∷ []) (codes "{\"target\":{\"arch\":\"aarch64\",\"big_endian\":true,\"pointer_bytes\":4,\"version\":5},\"names\":[\"a\",\"b\"],\"modules\":[{\"functions\":[{\"symbol\":7,\"start\":22,\"end\":33,\"body_len\":30,\"map\":[[5,25]]}]}]}")) ≡ Some (record { architecture = Aarch64; big_endian = true; pointer_bytes = 4; version = 5; registers = finite.empty; common_entry = None })
+-- a target that tells all four
+target_told : target_in (map_of_bytes (1 ∷ []) (codes "{\"target\":{\"arch\":\"aarch64\",\"big_endian\":true,\"pointer_bytes\":4,\"version\":5,\"debugger\":true},\"names\":[\"a\",\"b\"],\"modules\":[{\"functions\":[{\"symbol\":7,\"start\":22,\"end\":33,\"body_len\":30,\"map\":[[5,25]]}]}]}")) ≡ Some (record { architecture = Aarch64; big_endian = true; pointer_bytes = 4; version = 5; output = Debugger; registers = finite.empty; common_entry = None })
 unfolding map_on_literals
 target_told = refl
 
@@ -87,7 +89,7 @@ unfolding map_on_literals
 pointer_null = refl
 
 -- the version that is the default may be told too
-version_4 : target_in (map_of_bytes (1 ∷ []) (codes "{\"target\":{\"arch\":\"pulley\",\"version\":4},\"names\":[\"a\",\"b\"],\"modules\":[{\"functions\":[{\"symbol\":7,\"start\":22,\"end\":33,\"body_len\":30,\"map\":[[5,25]]}]}]}")) ≡ Some (record { architecture = Pulley; big_endian = false; pointer_bytes = 8; version = 4; registers = finite.empty; common_entry = None })
+version_4 : target_in (map_of_bytes (1 ∷ []) (codes "{\"target\":{\"arch\":\"pulley\",\"version\":4},\"names\":[\"a\",\"b\"],\"modules\":[{\"functions\":[{\"symbol\":7,\"start\":22,\"end\":33,\"body_len\":30,\"map\":[[5,25]]}]}]}")) ≡ Some (record { architecture = Pulley; big_endian = false; pointer_bytes = 8; version = 4; output = Default; registers = finite.empty; common_entry = None })
 unfolding map_on_literals
 version_4 = refl
 
@@ -121,6 +123,29 @@ version_negative = refl
 big_endian_1 : HasValue (codes "{\"target\":{\"arch\":\"pulley\",\"big_endian\":1},\"names\":[\"a\",\"b\"],\"modules\":[{\"functions\":[{\"symbol\":7,\"start\":22,\"end\":33,\"body_len\":30,\"map\":[[5,25]]}]}]}") false
 unfolding map_on_literals
 big_endian_1 = refl
+
+-- what is the default may be told too
+debugger_false : target_in (map_of_bytes (1 ∷ []) (codes "{\"target\":{\"arch\":\"pulley\",\"debugger\":false},\"names\":[\"a\",\"b\"],\"modules\":[{\"functions\":[{\"symbol\":7,\"start\":22,\"end\":33,\"body_len\":30,\"map\":[[5,25]]}]}]}")) ≡ Some (record { architecture = Pulley; big_endian = false; pointer_bytes = 8; version = 4; output = Default; registers = finite.empty; common_entry = None })
+unfolding map_on_literals
+debugger_false = refl
+
+-- of two the later counts
+debugger_later : target_in (map_of_bytes (1 ∷ []) (codes "{\"target\":{\"arch\":\"pulley\",\"debugger\":false,\"debugger\":true},\"names\":[\"a\",\"b\"],\"modules\":[{\"functions\":[{\"symbol\":7,\"start\":22,\"end\":33,\"body_len\":30,\"map\":[[5,25]]}]}]}")) ≡ Some (record { architecture = Pulley; big_endian = false; pointer_bytes = 8; version = 4; output = Debugger; registers = finite.empty; common_entry = None })
+unfolding map_on_literals
+debugger_later = refl
+
+-- null, a number and a text are no truth values
+debugger_null : HasValue (codes "{\"target\":{\"arch\":\"pulley\",\"debugger\":null},\"names\":[\"a\",\"b\"],\"modules\":[{\"functions\":[{\"symbol\":7,\"start\":22,\"end\":33,\"body_len\":30,\"map\":[[5,25]]}]}]}") false
+unfolding map_on_literals
+debugger_null = refl
+
+debugger_1 : HasValue (codes "{\"target\":{\"arch\":\"pulley\",\"debugger\":1},\"names\":[\"a\",\"b\"],\"modules\":[{\"functions\":[{\"symbol\":7,\"start\":22,\"end\":33,\"body_len\":30,\"map\":[[5,25]]}]}]}") false
+unfolding map_on_literals
+debugger_1 = refl
+
+debugger_text : HasValue (codes "{\"target\":{\"arch\":\"pulley\",\"debugger\":\"true\"},\"names\":[\"a\",\"b\"],\"modules\":[{\"functions\":[{\"symbol\":7,\"start\":22,\"end\":33,\"body_len\":30,\"map\":[[5,25]]}]}]}") false
+unfolding map_on_literals
+debugger_text = refl
 
 -- three names
 names_three : HasValue (codes "{\"target\":{\"arch\":\"pulley\"},\"names\":[\"a\",\"b\",\"c\"],\"modules\":[{\"functions\":[{\"symbol\":7,\"start\":22,\"end\":33,\"body_len\":30,\"map\":[[5,25]]}]}]}") false
@@ -213,6 +238,7 @@ cie_told : target_in (map_of_bytes (1 ∷ []) (codes "{\"target\":{\"arch\":\"pu
   big_endian = false;
   pointer_bytes = 8;
   version = 4;
+  output = Default;
   registers = finite.empty;
   common_entry = Some (record { code_factor = 1; data_factor = negsuc 7; return_register = 16; instructions = def_cfa 7 (pos 8) ∷ [] });
 })

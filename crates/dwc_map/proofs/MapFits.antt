@@ -7,10 +7,11 @@ use Rattle.std.specs.Str.{is_utf8}
 use Rattle.serde_json.specs.Data.{Data, null, boolean, number, string, array, object, Members}
 use Rattle.serde_json.specs.Read.{read}
 use Rattle.serde_json.specs.Find.{get_member}
+use Rattle.dwc_base.specs.declared.records.OutputFor.TheVariants.{Default}
 use Rattle.dwc_native.specs.CallFrames.{CommonEntry, is_sound, is_sound_if}
 use Rattle.dwc_base.specs.Reading.{coded}
 use Rattle.dwc_map.specs.declared.map_file.MapFile.{MapFile as DeclaredMap}
-use Rattle.dwc_map.specs.MapFile.{Target, MapFile, architecture_of, pointer_bytes_of, version_of, register_numbers_of, target_of, MapModule, have_counts, is_countable, map_for, map_in, map_in_bytes, map_of_bytes, map_with, modules_of, IsMap, IsMapFor}
+use Rattle.dwc_map.specs.MapFile.{Target, MapFile, architecture_of, pointer_bytes_of, version_of, output_of, register_numbers_of, target_of, MapModule, have_counts, is_countable, map_for, map_in, map_in_bytes, map_of_bytes, map_with, modules_of, IsMap, IsMapFor}
 use Rattle.dwc_map.specs.MapValues.{◌>>=◌, only_if, number_below, value_or, with_default, required, list_of, pair_of, text_of, truth_of, members_of, u8_of, u32_of, i8_of, nullable}
 use Rattle.dwc_map.specs.MapFrames.{instruction_of, cie_of, cie_in}
 use Rattle.dwc_map.specs.MapViews.{map_file_view}
@@ -64,7 +65,8 @@ target-size d t e =
     let big_endian = bind-some (with_default (codes "big_endian") false truth_of ms.0) _ t architecture.2 in
     let pointer_bytes = bind-some (with_default (codes "pointer_bytes") 8 pointer_bytes_of ms.0) _ t big_endian.2 in
     let version = bind-some (with_default (codes "version") 4 version_of ms.0) _ t pointer_bytes.2 in
-    let registers = bind-some (with_default (codes "registers") finite.empty register_numbers_of ms.0) _ t version.2 in
+    let output = bind-some (with_default (codes "debugger") Default output_of ms.0) _ t version.2 in
+    let registers = bind-some (with_default (codes "registers") finite.empty register_numbers_of ms.0) _ t output.2 in
     let common_entry = bind-some (cie_in ms.0) _ t registers.2 in
     let is : pointer_bytes.0 ≡ t.pointer_bytes = ap (λ (x : Target). x.pointer_bytes) (same_some _ t common_entry.2) in
     let size = size_or (get_member (codes "pointer_bytes") ms.0) pointer_bytes.0 pointer_bytes.1 in
@@ -79,7 +81,8 @@ target-version d t e =
     let big_endian = bind-some (with_default (codes "big_endian") false truth_of ms.0) _ t architecture.2 in
     let pointer_bytes = bind-some (with_default (codes "pointer_bytes") 8 pointer_bytes_of ms.0) _ t big_endian.2 in
     let version = bind-some (with_default (codes "version") 4 version_of ms.0) _ t pointer_bytes.2 in
-    let registers = bind-some (with_default (codes "registers") finite.empty register_numbers_of ms.0) _ t version.2 in
+    let output = bind-some (with_default (codes "debugger") Default output_of ms.0) _ t version.2 in
+    let registers = bind-some (with_default (codes "registers") finite.empty register_numbers_of ms.0) _ t output.2 in
     let common_entry = bind-some (cie_in ms.0) _ t registers.2 in
     let is : version.0 ≡ t.version = ap (λ (x : Target). x.version) (same_some _ t common_entry.2) in
     subst (λ n. (n ≡ 4) ⊎ (n ≡ 5)) is (version_or (get_member (codes "version") ms.0) version.0 version.1)
@@ -122,7 +125,8 @@ target-sound d t e =
     let big_endian = bind-some (with_default (codes "big_endian") false truth_of ms.0) _ t architecture.2 in
     let pointer_bytes = bind-some (with_default (codes "pointer_bytes") 8 pointer_bytes_of ms.0) _ t big_endian.2 in
     let version = bind-some (with_default (codes "version") 4 version_of ms.0) _ t pointer_bytes.2 in
-    let registers = bind-some (with_default (codes "registers") finite.empty register_numbers_of ms.0) _ t version.2 in
+    let output = bind-some (with_default (codes "debugger") Default output_of ms.0) _ t version.2 in
+    let registers = bind-some (with_default (codes "registers") finite.empty register_numbers_of ms.0) _ t output.2 in
     let common_entry = bind-some (cie_in ms.0) _ t registers.2 in
     let is : common_entry.0 ≡ t.common_entry = ap (λ (x : Target). x.common_entry) (same_some _ t common_entry.2) in
     subst (λ c. is_sound_if c ≡ true) is (told-sound (get_member (codes "cie") ms.0) common_entry.0 common_entry.1)

@@ -6,6 +6,8 @@ use Rattle.std.specs.Str.{is_utf8}
 use Rattle.serde_json.specs.Data.{Data, null, Members}
 use Rattle.serde_json.specs.Find.{get_member}
 use Rattle.serde_json.specs.Read.{read}
+use Rattle.dwc_base.specs.declared.records.OutputFor.{OutputFor}
+use Rattle.dwc_base.specs.declared.records.OutputFor.TheVariants.{Default, Debugger}
 use Rattle.dwc_base.specs.Reading.{coded}
 use Rattle.dwc_native.specs.CallFrames.{CommonEntry, FrameDescription, is_sound_if}
 use Rattle.dwc_native.specs.Functions.{AddressMap}
@@ -19,13 +21,14 @@ use Rattle.dwc_map.specs.MapValues.{◌>>=◌, only_if, number_below, u16_of, u3
 use Rattle.dwc_map.specs.MapFrames.{cie_in, frame_in}
 use Rattle.dwc_isa.specs.ToldModules.{AreNames}
 
--- the target that the code was compiled for, with the version of DWARF that is written for it, DWARF's numbers of its registers, and what
--- its frames share
+-- the target that the code was compiled for, with the version of DWARF that is written for it, whom that is written for, DWARF's numbers of
+-- its registers, and what its frames share
 pub record Target : Type 0 where
   pub architecture : Architecture
   pub big_endian : Bool
   pub pointer_bytes : ℕ
   pub version : ℕ
+  pub output : OutputFor
   pub registers : Registers
   pub common_entry : Option CommonEntry
 
@@ -67,6 +70,14 @@ pointer_bytes_of d = number_below 9 d >>= λ n. coded ((4, 4) ∷ (8, 8) ∷ [])
 abbrev pub version_of : Data → Option ℕ
 version_of d = number_below 6 d >>= λ n. coded ((4, 4) ∷ (5, 5) ∷ []) n
 
+-- whom an output is for: whether for a debugger
+abbrev pub output_asked : Bool → OutputFor
+output_asked true = Debugger
+output_asked false = Default
+
+abbrev pub output_of : Data → Option OutputFor
+output_of d = option_map output_asked (truth_of d)
+
 -- DWARF's numbers of registers
 unfoldable pub register_numbers_of : Data → Option Registers
 register_numbers_of d = table_of u16_of d
@@ -79,9 +90,10 @@ target_of d = do
   big_endian ← with_default (codes "big_endian") false truth_of ms
   pointer_bytes ← with_default (codes "pointer_bytes") 8 pointer_bytes_of ms
   version ← with_default (codes "version") 4 version_of ms
+  output ← with_default (codes "debugger") Default output_of ms
   registers ← with_default (codes "registers") finite.empty register_numbers_of ms
   common_entry ← cie_in ms
-  Some (record { architecture = architecture; big_endian = big_endian; pointer_bytes = pointer_bytes; version = version; registers = registers; common_entry = common_entry })
+  Some (record { architecture = architecture; big_endian = big_endian; pointer_bytes = pointer_bytes; version = version; output = output; registers = registers; common_entry = common_entry })
 
 -- the kinds of places by their names
 abbrev pub places : List (List ℕ × (Data → Option Place))

@@ -28,7 +28,7 @@ use Rattle.dwc_map.specs.declared.map_file.MapModule.{MapModule}
 use Rattle.dwc_map.specs.declared.map_file.MapFile.{MapFile}
 
 abbrev pub target_view : Target → value.Target
-target_view t = record { architecture = t.arch; big_endian = t.big_endian; pointer_bytes = t.pointer_bytes; version = t.version; registers = registers_of t.registers.items; common_entry = option_map cie_view t.cie }
+target_view t = record { architecture = t.arch; big_endian = t.big_endian; pointer_bytes = t.pointer_bytes; version = t.version; output = t.output_for; registers = registers_of t.registers.items; common_entry = option_map cie_view t.cie }
 
 -- a target from its fields, whose registers and common information entry are still values; none where these are no table of
 -- registers and no entry
@@ -41,6 +41,7 @@ target_with f =
       big_endian = f.big_endian;
       pointer_bytes = f.pointer_bytes;
       version = f.version;
+      output = f.output_for;
       registers = registers;
       common_entry = common_entry;
     })

@@ -3,11 +3,11 @@ ghost use Rattle.std.specs.Prelude.{◌≡◌, ◌==◌, option_map, Some, IfSom
 ghost use Rattle.std.specs.List.{list_any};
 ghost use Rattle.serde_json.specs.View.{view, items_view, members_view};
 ghost use Rattle.serde_json.specs.Find.{get_member, as_array};
-ghost use Rattle.dwc_map.specs.MapFile.{pointer_bytes_of, version_of, architecture_of};
+ghost use Rattle.dwc_map.specs.MapFile.{pointer_bytes_of, version_of, output_of, architecture_of};
 ghost use Rattle.dwc_map.specs.MapViews.{IsPlace};
 ghost use Rattle.dwc_map.specs.MapValues.{u32_of, u16_of, u8_of, i8_of, i32_of, i64_of, source_of, nullable, text_of, members_of, pair_of, four_of};
 
-use dwc_base::{FilePos, SymbolId};
+use dwc_base::{FilePos, OutputFor, SymbolId};
 use dwc_isa::Architecture;
 use serde_json::{Map, Value};
 
@@ -153,6 +153,16 @@ pub(crate) fn version(value: &Value) -> Option<u16>
         4 => Some(4),
         5 => Some(5),
         _ => None,
+    }
+}
+
+/// Whom the output is for: whether for a debugger.
+pub(crate) fn output_for(value: &Value) -> Option<OutputFor>
+    ensures { result ≡ output_of (view value.now) }
+{
+    match value.as_bool()? {
+        true => Some(OutputFor::Debugger),
+        false => Some(OutputFor::Default),
     }
 }
 

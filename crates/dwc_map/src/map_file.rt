@@ -1,19 +1,21 @@
 //! The map file: what a code generator tells of the functions that it compiled, as a JSON object.
-ghost use Rattle.std.specs.Prelude.{◌≡◌, map, option_map, option_and_then, IfOk, IfSome, Some, None};
+ghost use Rattle.std.specs.Prelude.{◌≡◌, codes, map, option_map, option_and_then, IfOk, IfSome, Some, None};
+ghost use Rattle.dwc_base.specs.declared.records.OutputFor.TheVariants.{Default};
 ghost use Rattle.serde_json.specs.View.{view, members_view};
-ghost use Rattle.dwc_map.specs.MapFile.{target_of, map_in, map_for, map_in_bytes, map_of_bytes, map_with, have_counts, is_countable, IsMap, IsMapFor};
-ghost use Rattle.dwc_map.specs.MapValues.{text_of, u32_of, pair_of, value_or};
+ghost use Rattle.dwc_map.specs.MapFile.{output_of, target_of, map_in, map_for, map_in_bytes, map_of_bytes, map_with, have_counts, is_countable, IsMap, IsMapFor};
+ghost use Rattle.dwc_map.specs.MapValues.{text_of, u32_of, pair_of, value_or, with_default};
 ghost use Rattle.dwc_map.specs.MapViews.{target_with, target_view, names_view, module_view, map_file_view, ModulesAreConsistent};
 
 use crate::by_tokens::map_by_tokens;
 use crate::frames::read_cie;
 use crate::json_fields::{
-    architecture, items, member, members, pair, plain_text, pointer_bytes, version, whole_number,
+    architecture, items, member, members, output_for, pair, plain_text, pointer_bytes, version,
+    whole_number,
 };
 use crate::module::read_modules;
 use crate::registers::read_registers;
 use crate::stop::Stop;
-use dwc_base::{ModuleTranslation, SymbolId};
+use dwc_base::{ModuleTranslation, OutputFor, SymbolId};
 use dwc_compiled::CompiledFunctionMetadata;
 use dwc_isa::{Architecture, Cie, ModuleMemoryOffset, Reg};
 use serde_json::{Map, Value};
@@ -32,6 +34,8 @@ pub struct Target {
     pub pointer_bytes: u8,
     /// The version of DWARF that is written: 4 or 5.
     pub version: u16,
+    /// Whom it is written for.
+    pub output_for: OutputFor,
     /// Its registers, each once, with DWARF's numbers of them.
     pub registers: Vec<(Reg, u16)>,
     /// What its frames share, if this is told; it can be written.
@@ -76,8 +80,19 @@ struct TargetFields<'v> {
     big_endian: bool,
     pointer_bytes: u8,
     version: u16,
+    output_for: OutputFor,
     registers: Option<&'v Value>,
     cie: Option<&'v Value>,
+}
+
+// Whom the output is for, by the members of a target.
+fn told_output(fields: &Map<String, Value>) -> Option<OutputFor>
+    ensures { result ≡ with_default (codes "debugger") Default output_of (members_view fields.now.entries) }
+{
+    match member(fields, "debugger") {
+        Some(field) => output_for(field),
+        None => Some(OutputFor::Default),
+    }
 }
 
 #[tactic(auto, unfolding(crate::specs::MapFile::target_of))]
@@ -98,11 +113,13 @@ fn target_fields(value: &Value) -> Option<TargetFields<'_>>
         Some(field) => version(field)?,
         None => 4,
     };
+    let output_for = told_output(fields)?;
     Some(TargetFields {
         arch,
         big_endian,
         pointer_bytes,
         version,
+        output_for,
         registers: member(fields, "registers"),
         cie: member(fields, "cie"),
     })
@@ -125,6 +142,7 @@ fn read_target(alloc: Global, value: &Value) -> Result<Option<Target>, AllocErro
         big_endian: fields.big_endian,
         pointer_bytes: fields.pointer_bytes,
         version: fields.version,
+        output_for: fields.output_for,
         registers,
         cie,
     }))
