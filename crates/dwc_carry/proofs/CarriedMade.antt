@@ -145,8 +145,8 @@ module _ (c : Module) (m : KeptModule) (is : IsKeptModule c.functions c.sections
           → IsMadeOf at encoding table number (carried_unit (record { module_of = c; unit = of_read r })) (wanted_of big_endian c first (of_read r)) g
       one-made front more r g are number counted k same =
           let target = place_of_goal first (module_drafts big_endian c) in
-          let have = subst (λ n. GoalsHave (IsPutAt at (goals n) target) c.told.memory (kept_in (kept_of c) (of_read r))) (sym counted) (goals-put c m is big_endian first at goals numbered front more r are) in
-          let put = subst (λ (gs : Goal → Option (ℕ × ℕ)). GoalsHave (IsPutAt at gs target) c.told.memory (kept_in (kept_of c) (of_read r))) same have in
+          let have = subst (λ n. GoalsHave (IsPutAt at (goals n) target) c.told.output c.told.memory (kept_in (kept_of c) (of_read r))) (sym counted) (goals-put c m is big_endian first at goals numbered front more r are) in
+          let put = subst (λ (gs : Goal → Option (ℕ × ℕ)). GoalsHave (IsPutAt at gs target) c.told.output c.told.memory (kept_in (kept_of c) (of_read r))) same have in
           record {
             has_lines = k.has_lines;
             depths = k.depths;

@@ -3,6 +3,7 @@ use Rattle.std.proofs.Common.{◌≡◌, ℕ, suc, ◌+◌, ◌-◌, refl, ap, a
 use Rattle.std.specs.Option.{unwrap_or}
 use Rattle.std.specs.List.{cons_option}
 use Rattle.std.proofs.lemmas.Option.{slice_get-map}
+use Rattle.dwc_base.specs.declared.records.OutputFor.{OutputFor}
 use Rattle.dwc_native.specs.CallFrames.{FrameDescription}
 use Rattle.dwc_native.specs.Compiled.{frames_from}
 use Rattle.dwc_native.specs.Functions.{function_of, functions_of}
@@ -23,19 +24,19 @@ tells-behind told number f fs tells = λ i g at.
     subst (λ n. told n ≡ description_of_metadata g.1) next (tells (suc i) g at)
 
 -- a function
-one : (told : ℕ → Option FrameDescription) (code_offset number : ℕ) (f : Compiled) → told number ≡ description_of_metadata f.1
-    → description_of told (function_of code_offset number (address_map_view f)) ≡ described number f
-one told code_offset number (None, m) is = refl
-one told code_offset number (Some s, m) is = ap (option_map (λ d. (number, d))) is
+one : (output : OutputFor) (told : ℕ → Option FrameDescription) (code_offset number : ℕ) (f : Compiled) → told number ≡ description_of_metadata f.1
+    → description_of told (function_of output code_offset number (address_map_view f)) ≡ described number f
+one output told code_offset number (None, m) is = refl
+one output told code_offset number (Some s, m) is = ap (option_map (λ d. (number, d))) is
 
 -- functions
-told-frames : (told : ℕ → Option FrameDescription) (code_offset number : ℕ) (fs : List Compiled) → TellsFrom told number fs
-    → descriptions told (functions_of code_offset number (map address_map_view fs)) ≡ compiled_frames number fs
-told-frames told code_offset number [] tells = refl
-told-frames told code_offset number (f ∷ fs) tells =
+told-frames : (output : OutputFor) (told : ℕ → Option FrameDescription) (code_offset number : ℕ) (fs : List Compiled) → TellsFrom told number fs
+    → descriptions told (functions_of output code_offset number (map address_map_view fs)) ≡ compiled_frames number fs
+told-frames output told code_offset number [] tells = refl
+told-frames output told code_offset number (f ∷ fs) tells =
     let same : number + 0 ≡ number = omega arith in
     let here : told number ≡ description_of_metadata f.1 = subst (λ n. told n ≡ description_of_metadata f.1) same (tells 0 f refl) in
-    ap₂ cons_option (one told code_offset number f here) (told-frames told code_offset (number + 1) fs (tells-behind told number f fs tells))
+    ap₂ cons_option (one output told code_offset number f here) (told-frames output told code_offset (number + 1) fs (tells-behind told number f fs tells))
 
 -- what is told of functions by their numbers, from the number of the first on
 tells-from : (number : ℕ) (fs : List Compiled) → TellsFrom (frames_from number (map (λ f. description_of_metadata f.1) fs)) number fs
@@ -45,6 +46,6 @@ tells-from number fs = λ i f at.
     ∙ ap (λ o. unwrap_or o None) (slice_get-map (λ g. description_of_metadata g.1) fs i ∙ ap (option_map (λ g. description_of_metadata g.1)) at)
 
 -- The descriptions that are told of a module's functions, of which the first has a number, are those that are compiled.
-pub module-frames : (number code_offset : ℕ) (fs : List Compiled)
-    → descriptions (frames_from number (map (λ f. description_of_metadata f.1) fs)) (functions_of code_offset number (map address_map_view fs)) ≡ compiled_frames number fs
-module-frames number code_offset fs = told-frames (frames_from number (map (λ f. description_of_metadata f.1) fs)) code_offset number fs (tells-from number fs)
+pub module-frames : (output : OutputFor) (number code_offset : ℕ) (fs : List Compiled)
+    → descriptions (frames_from number (map (λ f. description_of_metadata f.1) fs)) (functions_of output code_offset number (map address_map_view fs)) ≡ compiled_frames number fs
+module-frames output number code_offset fs = told-frames output (frames_from number (map (λ f. description_of_metadata f.1) fs)) code_offset number fs (tells-from number fs)

@@ -15,6 +15,7 @@ use Rattle.dwc_native.specs.Functions.{Function, Recorded}
 use Rattle.dwc_carried.specs.SimulatedFunctions.{defined_from, is_simulated, simulated_among, simulated_functions}
 use Rattle.dwc_rules.specs.LocationRules.{frame_told}
 use Rattle.dwc_rules.specs.Refusals.{Refusal}
+use Rattle.dwc_rules.specs.Scopes.{source_end}
 use Rattle.dwc_base.specs.Listing.{first_of}
 use Rattle.dwc_carried.specs.SimulatedUnit.{first_source, function_entries, function_index, function_name, variable_refusals}
 use Rattle.dwc_base.specs.ToldFiles.{ToldFile}
@@ -118,7 +119,7 @@ never-none x is = absurd (cc)
 
 module _ (registers : Registers) (m : Module) (l : SimulatedModule) (lm : IsSimulatedModule registers m l) (place : ℕ) (x : Function) where
   -- What is given of a simulated function of a simulated module tells that function.
-  pub function-simulated : (f : SimulatedFunction) → l.translation.now.imported_funcs + place ≡ f.index → f.locals.now ≡ types_at m (record { place = place; function = x }) → frame_view (Some f.frame) ≡ Some (frame_told (told_by registers l.compiled.now) x) → f.scope ≡ (x.start, x.end)
+  pub function-simulated : (f : SimulatedFunction) → l.translation.now.imported_funcs + place ≡ f.index → f.locals.now ≡ types_at m (record { place = place; function = x }) → frame_view (Some f.frame) ≡ Some (frame_told (told_by registers l.compiled.now) x) → f.scope ≡ (x.start, source_end x)
       → IsSimulatedFunction registers m (record { place = place; function = x }) l f
   function-simulated f index locals frame scope = record {
     file = lm.file;

@@ -5,6 +5,7 @@ use Rattle.std.specs.Option.{unwrap_or}
 use Rattle.std.specs.List.{cons_option, flat_map, list_any}
 use Rattle.std.proofs.lemmas.List.{append_assoc}
 use Rattle.std.proofs.lemmas.List.Elements.{All-nil, All-cons, All-head, All-tail}
+use Rattle.dwc_base.specs.declared.records.OutputFor.{OutputFor}
 use Rattle.dwc_base.specs.declared.faults.Limit.TheVariants.{Addend}
 use Rattle.dwc_native.specs.Functions.{AddressMap, Function, map_fault, function_of, functions_of, wasm_entry}
 use Rattle.dwc_native.specs.Runs.{HasGoodMap}
@@ -74,11 +75,12 @@ checked-short fss h = go (have_long fss) h
 -- ---- addends
 
 -- a function of a good map has a good map
-good-made : (code_offset number : ℕ) (m : AddressMap) → map_fault code_offset m ≡ None → HasGoodMap (function_of code_offset number m)
-good-made code_offset number m good = record { code_offset = code_offset; address_map = m; good = good; made = go m.symbol }
+good-made : (output : OutputFor) (code_offset number : ℕ) (m : AddressMap) → map_fault code_offset m ≡ None → HasGoodMap (function_of output code_offset number m)
+good-made output code_offset number m good = record { code_offset = code_offset; address_map = m; good = good; made = go m.symbol }
   where
     numbered : ℕ → Option ℕ → Function
     numbered n o = record {
+      output = output;
       number = unwrap_or (option_map (λ s. n) o) 0;
       symbol = option_map (λ s. n) o;
       start = unwrap_or m.start 0 - code_offset;
@@ -91,14 +93,14 @@ good-made code_offset number m good = record { code_offset = code_offset; addres
     go None = refl
     go (Some s) = refl
 
-good-all : (code_offset number : ℕ) (ms : List AddressMap) → All (λ m. map_fault code_offset m ≡ None) ms → All HasGoodMap (functions_of code_offset number ms)
-good-all code_offset number [] good = All-nil HasGoodMap
-good-all code_offset number (m ∷ ms) good =
-    All-cons HasGoodMap (function_of code_offset number m) (functions_of code_offset (number + 1) ms) (good-made code_offset number m (All-head (λ (m : AddressMap). map_fault code_offset m ≡ None) m ms good))
-    (good-all code_offset (number + 1) ms (All-tail (λ (m : AddressMap). map_fault code_offset m ≡ None) m ms good))
+good-all : (output : OutputFor) (code_offset number : ℕ) (ms : List AddressMap) → All (λ m. map_fault code_offset m ≡ None) ms → All HasGoodMap (functions_of output code_offset number ms)
+good-all output code_offset number [] good = All-nil HasGoodMap
+good-all output code_offset number (m ∷ ms) good =
+    All-cons HasGoodMap (function_of output code_offset number m) (functions_of output code_offset (number + 1) ms) (good-made output code_offset number m (All-head (λ (m : AddressMap). map_fault code_offset m ≡ None) m ms good))
+    (good-all output code_offset (number + 1) ms (All-tail (λ (m : AddressMap). map_fault code_offset m ≡ None) m ms good))
 
 kept-good : (fs : List Function) → AreKept fs → All HasGoodMap fs
-kept-good fs k = subst (All HasGoodMap) (sym k.kept) (good-all k.code_offset k.first_number k.maps (all-good k.code_offset 0 k.maps k.good))
+kept-good fs k = subst (All HasGoodMap) (sym k.kept) (good-all k.output k.code_offset k.first_number k.maps (all-good k.code_offset 0 k.maps k.good))
 
 none-long : (fs : List Function) → list_any is_long fs ≡ false → All (λ f. is_long f ≡ false) fs
 none-long [] h = All-nil (λ (f : Function). is_long f ≡ false)

@@ -1,5 +1,5 @@
 -- A unit of the output names a line table exactly where the root that it is made of names one that can be read.
-use Rattle.std.proofs.Common.{◌≡◌, ℕ, List, [], ◌∷◌, ◌++◌, length, map, refl, ap, ap₂, sym, subst, ◌∙◌, arith, Bool, true, false, cond, Option, Some, None, Result, Ok, Err, All}
+use Rattle.std.proofs.Common.{◌≡◌, ℕ, List, [], ◌∷◌, ◌++◌, length, map, refl, ap, ap₂, sym, subst, ◌∙◌, arith, Bool, true, false, cond, Option, Some, None, Result, Ok, Err, All, inl, inr}
 use Rattle.std.specs.Prelude.{pos, ◌==◌, ◌||◌, ◌&&◌, is_some, if◌then◌else◌, fold, option_map}
 use Rattle.std.specs.List.{filter_map, cons_option, list_any}
 use Rattle.std.proofs.lemmas.Bool.{eq-eqb, eqb-true}
@@ -20,17 +20,20 @@ use Rattle.dwc_rules.specs.ContextVariable.{context_entries}
 use Rattle.dwc_rules.specs.LocationRules.{ExpressionSource}
 use Rattle.dwc_rules.specs.ObjectPointers.{is_object_pointer, names_no_pointer, pointers_changed, points_to_object, unlike_this}
 use Rattle.dwc_dwarf.specs.Texts.{TextSource}
-use Rattle.dwc_rules.specs.Wrappers.{entries_made, with_wrapper}
+use Rattle.dwc_rules.specs.Wrappers.{entries_made, with_wrapper, is_wrapped_too}
 use Rattle.dwc_rules.specs.Refusals.{Refusal}
 use Rattle.dwc_base.specs.Sections.{Sections}
 use Rattle.dwc_base.specs.Units.{UnitHeader}
+use Rattle.dwc_base.specs.declared.records.OutputFor.{OutputFor}
+use Rattle.dwc_base.specs.declared.records.OutputFor.TheVariants.{Default, Debugger}
 use Rattle.dwc_dwarf.specs.Entries.{Entry}
 use Rattle.dwc_dwarf.specs.Lists.{list_source}
 use Rattle.dwc_dwarf.specs.RawLists.{ListSource}
-use Rattle.dwc_rules.specs.RangeAttributes.{begun_function, Extent, intervals, position, nowhere, extent, bounds as bounds_of, length_of, said_intervals, said_extent, range_attributes}
+use Rattle.dwc_rules.specs.RangeAttributes.{begun_function, Extent, intervals, position, nowhere, extent, bounds as bounds_of, length_of, said_intervals, said_extent, range_attributes, with_base}
 use Rattle.dwc_native.specs.ScopesKept.{native_of_intervals}
 use Rattle.dwc_rules.specs.EntryRules.{code_rules, rules_of_source, wrappers_of}
 use Rattle.dwc_rules.proofs.ForestLaws.{Each, each_chosen}
+use Rattle.dwc_rules.proofs.ListBaseLaws.{BaseOrNone, base-or-none}
 use Rattle.dwc_clone.specs.GivenAttributes.{Attribute}
 use Rattle.dwc_unit.specs.declared.attributes.AttributeValue.{AttributeValue}
 use Rattle.dwc_unit.specs.declared.attributes.AttributeValue.TheVariants.{Address, Constant, Flag, Block, Exprloc, StringRef, LineProgramRef, RangeListRef, LocationListRef, UnitRef, DebugInfoRef}
@@ -264,6 +267,13 @@ range-other fs s e = go (begun_function s fs e)
     go (Some f) = (refl, (refl, tt))
     go None = extent-other fs e.tag (extent s e)
 
+based-other : (output : OutputFor) (is_root : Bool) (xs : List (ℕ × TreeValue)) → Each IsOther xs → Each IsOther (with_base output is_root xs)
+based-other output is_root xs h = go (base-or-none output is_root xs)
+  where
+    go : BaseOrNone (with_base output is_root xs) xs → Each IsOther (with_base output is_root xs)
+    go (inl same) = rw same h
+    go (inr same) = rw same (refl, h)
+
 endianity-other : (big_endian : Bool) (e : Placed) → AreOther (endianity big_endian e)
 endianity-other big_endian e = go (big_endian && (e.entry.tag == DW_TAG_base_type))
   where
@@ -289,10 +299,12 @@ root-says told fs t h es s big_endian places e root =
     ∙ become.1
   where
     bounds : List (ℕ × DraftValue)
-    bounds = map (λ a. (a.0, done a.1)) (range_attributes (list_source t h) fs e.entry)
+    bounds = map (λ a. (a.0, done a.1)) (with_base told.output (e.entry.tag == DW_TAG_compile_unit) (range_attributes (list_source t h) fs e.entry))
 
     others : AreOther bounds
-    others = others-drafted (range_attributes (list_source t h) fs e.entry) (range-other fs (list_source t h) e.entry)
+    others =
+        others-drafted (with_base told.output (e.entry.tag == DW_TAG_compile_unit) (range_attributes (list_source t h) fs e.entry))
+        (based-other told.output (e.entry.tag == DW_TAG_compile_unit) (range_attributes (list_source t h) fs e.entry) (range-other fs (list_source t h) e.entry))
 
     made : List (ℕ × DraftValue)
     made = filter_map (λ a. if_made a.0 a.1) (attributes_become (code_rules told fs t h es) s e [] e.entry.attributes)
@@ -314,9 +326,13 @@ pub root-drafted : (c : ExpressionSource) (s : UnitSource) (big_endian : Bool) (
     → unit_drafts c s big_endian (e ∷ es) ≡ draft_of (rules_of_source c) s big_endian e ∷ (context_entries c e ++ unit_drafts c s big_endian es)
 unfolding entries_made pointers_changed is_object_pointer
 root-drafted c s big_endian e es tag =
-    ap (λ (b : Bool). elim b [ true ↦ with_wrapper (wrappers_of c) e (unit_drafts c s big_endian es) | false ↦ entry_made c s big_endian e ++ unit_drafts c s big_endian es ]) (ap (λ t. (t == DW_TAG_pointer_type) || (t == DW_TAG_reference_type)) tag)
+    ap (λ (b : Bool). elim b [ true ↦ with_wrapper (wrappers_of c) e (unit_drafts c s big_endian es) | false ↦ entry_made c s big_endian e ++ unit_drafts c s big_endian es ]) (ap (λ t. (t == DW_TAG_pointer_type) || (t == DW_TAG_reference_type) || is_wrapped_too c.told.output t) tag ∙ plain c.told.output)
     ∙ ap (λ (xs : List (ℕ × DraftValue)). record { depth = e.entry.depth; tag = e.entry.tag; origin = Some (e.entry.offset, itself); attributes = xs } ∷ (context_entries c e ++ unit_drafts c s big_endian es)) (same (wrappers_of c).texts c.entries (attributes_made (rules_of_source c) s big_endian e))
   where
+    plain : (o : OutputFor) → is_wrapped_too o DW_TAG_compile_unit ≡ false
+    plain Default = refl
+    plain Debugger = refl
+
     same : (texts : TextSource) (all : List Placed) (xs : List (ℕ × DraftValue)) → pointers_changed texts all e xs ≡ xs
     same texts all xs =
         ap₂ (λ (a b : Bool). if a then filter_map unlike_this xs else (if b then filter_map (names_no_pointer all e) xs else xs))

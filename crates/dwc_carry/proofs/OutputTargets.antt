@@ -17,7 +17,7 @@ use Rattle.dwc_carried.specs.SimulatedFunctions.{is_begun, simulated_functions}
 use Rattle.dwc_rules.specs.MadeEntries.{made, named}
 use Rattle.dwc_rules.specs.SyntheticUnit.{synthetic_unit, place_of_context_pointer}
 use Rattle.dwc_native.specs.Parts.{context_label}
-use Rattle.dwc_carried.specs.SimulatedUnit.{base_types, context_entry, context_pointers, function_entries, function_entry, label_entry, local_entry, local_name, local_tag, label_locations, modules_entries, place_of_type, simulated_root, simulated_unit, type_place, unit_count, whole_intervals}
+use Rattle.dwc_carried.specs.SimulatedUnit.{base_types, context_entry, context_pointers, function_entries, function_entry, label_entry, label_locations, local_entry, local_name, local_tag, modules_entries, output_of, place_of_type, simulated_root, simulated_unit, type_place, unit_count, whole_intervals}
 use Rattle.dwc_base.specs.ToldFiles.{type_of_local}
 use Rattle.dwc_dwarf.specs.TreeLaws.{size_of_unit, goes_somewhere, values_of, HasAllTargets}
 use Rattle.dwc_dwarf.specs.Trees.{Interval, Location, TreeValue, address, constant, flag, block, expression, line_table, ranges, nothing, Tree, entry, locations, text}
@@ -25,6 +25,8 @@ use Rattle.dwc_carried.specs.UnitPaths.{unit_path}
 use Rattle.dwc_base.specs.declared.constants.TheConstants.{DW_AT_location, DW_AT_name, DW_AT_type, DW_TAG_variable}
 use Rattle.dwc_base.specs.declared.translation.ValType.{ValType}
 use Rattle.dwc_base.specs.declared.translation.ValType.TheVariants.{I32, I64, F32, F64, Other}
+use Rattle.dwc_base.specs.declared.records.OutputFor.{OutputFor}
+use Rattle.dwc_base.specs.declared.records.OutputFor.TheVariants.{Debugger, Default}
 use Rattle.dwc_rules.proofs.ForestLaws.{Each, each_both}
 use Rattle.dwc_carried.proofs.ForestTargets.{made-targets}
 use Rattle.dwc_carried.proofs.SimulatedUnitLaws.{last-number, units-counted}
@@ -95,8 +97,9 @@ all-go ts [] h = refl
 all-go ts (d ∷ ds) h = all-append (goes_somewhere ts) (map (λ a. a.1) (settled_entry (λ (goal : Goal). None) d).attributes) (values_of (settled_unit (λ goal. None) ds)) h.0 (all-go ts ds h.1)
 
 module _ (ts : List Tree) where
-  root-goes : (path : List ℕ) (whole : List Interval) → Goes ts (simulated_root path whole)
-  root-goes path whole = refl
+  root-goes : (output : OutputFor) (path : List ℕ) (whole : List Interval) → Goes ts (simulated_root output path whole)
+  root-goes Default path whole = refl
+  root-goes Debugger path whole = refl
 
   types-go : Each (Goes ts) base_types
   types-go = (refl, (refl, (refl, (refl, tt))))
@@ -163,8 +166,8 @@ module _ (ts : List Tree) where
   simulated-goes : (translated : ℕ → Bool) (path : List ℕ) (unit : ℕ) (pointers : List TreeValue) (ms : List Module) → ((place : ℕ) → place < 5 → IsThere ts unit place) → Each (GoesThere ts) pointers → unit_goes ts (settled_unit (λ goal. None) (simulated_unit translated path unit pointers ms)) ≡ true
   unfolding simulated_unit
   simulated-goes translated path unit pointers ms types contexts =
-      all-go ts (simulated_root path (flat_map (whole_intervals translated) ms) ∷ base_types ++ modules_entries translated unit pointers ms)
-      (root-goes path (flat_map (whole_intervals translated) ms), each_both (Goes ts) base_types (modules_entries translated unit pointers ms) types-go (modules-go unit types translated pointers ms contexts))
+      all-go ts (simulated_root (output_of ms) path (flat_map (whole_intervals translated) ms) ∷ base_types ++ modules_entries translated unit pointers ms)
+      (root-goes (output_of ms) path (flat_map (whole_intervals translated) ms), each_both (Goes ts) base_types (modules_entries translated unit pointers ms) types-go (modules-go unit types translated pointers ms contexts))
 
 -- ---- what it refers to
 

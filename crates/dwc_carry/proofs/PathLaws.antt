@@ -7,6 +7,7 @@ use Rattle.std.specs.Option.{option_or, unwrap_or}
 use Rattle.std.proofs.lemmas.Fmt.{decimal_is_IsNumeral}
 use Rattle.std.proofs.lemmas.Str.Parse.{digit_at}
 use Rattle.std.proofs.lemmas.List.Elements.{All-append, All-drop, All-from_get_or, All-take}
+use Rattle.dwc_base.specs.declared.records.OutputFor.{OutputFor}
 use Rattle.dwc_base.specs.declared.translation.ModuleTranslation.{ModuleTranslation}
 use Rattle.dwc_rules.specs.Carried.{Module}
 use Rattle.dwc_native.specs.Compiled.{ToldModule}
@@ -63,18 +64,18 @@ name-fits path plain named = record {
 
 -- ---- of a compilation
 
-file-from : (version : ℕ) (ts : List ModuleTranslation) (fss : List (List Compiled)) (told : List ToldModule) (t : ModuleTranslation) (m : Module) (ms : List Module) → t ≡ get_or ts 0 t → modules_from version 0 ts fss told ≡ m ∷ ms → m.file ≡ told_file t
-file-from version [] fss told t m ms at h = absurd (cc)
-file-from version (x ∷ ts) [] told t m ms at h = absurd (cc)
-file-from version (x ∷ ts) (fs ∷ fss) [] t m ms at h = absurd (cc)
-file-from version (x ∷ ts) (fs ∷ fss) (y ∷ told) t m ms at h = sym (ap (λ (n : Module). n.file) (head h)) ∙ ap told_file (sym at)
+file-from : (output : OutputFor) (version : ℕ) (ts : List ModuleTranslation) (fss : List (List Compiled)) (told : List ToldModule) (t : ModuleTranslation) (m : Module) (ms : List Module) → t ≡ get_or ts 0 t → modules_from output version 0 ts fss told ≡ m ∷ ms → m.file ≡ told_file t
+file-from output version [] fss told t m ms at h = absurd (cc)
+file-from output version (x ∷ ts) [] told t m ms at h = absurd (cc)
+file-from output version (x ∷ ts) (fs ∷ fss) [] t m ms at h = absurd (cc)
+file-from output version (x ∷ ts) (fs ∷ fss) (y ∷ told) t m ms at h = sym (ap (λ (n : Module). n.file) (head h)) ∙ ap told_file (sym at)
   where
-    head : Rattle.dwc_carry.specs.Inputs.module_view version 0 x fs y ∷ modules_from version (0 + length fs) ts fss told ≡ m ∷ ms → Rattle.dwc_carry.specs.Inputs.module_view version 0 x fs y ≡ m
+    head : Rattle.dwc_carry.specs.Inputs.module_view output version 0 x fs y ∷ modules_from output version (0 + length fs) ts fss told ≡ m ∷ ms → Rattle.dwc_carry.specs.Inputs.module_view output version 0 x fs y ≡ m
     head e = cc
 
 -- the file of the first module is the first one
 pub first-file : (registers : Registers) (c : CompilationValue) (t : ModuleTranslation) (m : Module) (ms : List Module) → t ≡ get_or c.translations 0 t → modules_of registers c ≡ m ∷ ms → m.file ≡ told_file t
-first-file registers c t m ms at h = file-from c.tunables.dwarf_version c.translations c.functions (told_from registers (names_of c) 0 0 c.functions c.memory_offsets) t m ms at h
+first-file registers c t m ms at h = file-from c.tunables.output_for c.tunables.dwarf_version c.translations c.functions (told_from c.tunables.output_for registers (names_of c) 0 0 c.functions c.memory_offsets) t m ms at h
 
 -- a list of modules that has a first one
 pub record HasFirst (xs : List Module) : Type 0 where
@@ -82,18 +83,18 @@ pub record HasFirst (xs : List Module) : Type 0 where
   pub ms : List Module
   pub is : xs ≡ m ∷ ms
 
-first-from : (version : ℕ) (ts : List ModuleTranslation) (fss : List (List Compiled)) (told : List ToldModule) → length fss ≡ length ts → length told ≡ length ts → 0 < length ts → HasFirst (modules_from version 0 ts fss told)
-first-from version [] fss told same counted some = absurd (omega (arith, some))
-first-from version (t ∷ ts) [] told same counted some = absurd (omega (arith, same))
-first-from version (t ∷ ts) (fs ∷ fss) [] same counted some = absurd (omega (arith, counted))
-first-from version (t ∷ ts) (fs ∷ fss) (x ∷ told) same counted some = record { m = Rattle.dwc_carry.specs.Inputs.module_view version 0 t fs x; ms = modules_from version (0 + length fs) ts fss told; is = refl }
+first-from : (output : OutputFor) (version : ℕ) (ts : List ModuleTranslation) (fss : List (List Compiled)) (told : List ToldModule) → length fss ≡ length ts → length told ≡ length ts → 0 < length ts → HasFirst (modules_from output version 0 ts fss told)
+first-from output version [] fss told same counted some = absurd (omega (arith, some))
+first-from output version (t ∷ ts) [] told same counted some = absurd (omega (arith, same))
+first-from output version (t ∷ ts) (fs ∷ fss) [] same counted some = absurd (omega (arith, counted))
+first-from output version (t ∷ ts) (fs ∷ fss) (x ∷ told) same counted some = record { m = Rattle.dwc_carry.specs.Inputs.module_view output version 0 t fs x; ms = modules_from output version (0 + length fs) ts fss told; is = refl }
 
 -- There is a module where there is a translation.
 pub has-first : (registers : Registers) (c : CompilationValue) → IsCounted c.translations c.functions c.memory_offsets → 0 < length c.translations → HasFirst (modules_of registers c)
 has-first registers c counted some =
     let same = counted-length c.translations c.functions c.memory_offsets counted in
-    first-from c.tunables.dwarf_version c.translations c.functions (told_from registers (names_of c) 0 0 c.functions c.memory_offsets) same
-    (told-length registers (names_of c) 0 0 c.functions c.memory_offsets (counted.offsets_given ∙ sym same) ∙ same) some
+    first-from c.tunables.output_for c.tunables.dwarf_version c.translations c.functions (told_from c.tunables.output_for registers (names_of c) 0 0 c.functions c.memory_offsets) same
+    (told-length c.tunables.output_for registers (names_of c) 0 0 c.functions c.memory_offsets (counted.offsets_given ∙ sym same) ∙ same) some
 
 module _ (c : CompilationValue) (t : ModuleTranslation) (u : UnitPath) (at : t ≡ get_or c.translations 0 t) (of : IsUnitPath t c.next_id u) where
   -- It is the path of the unit.

@@ -5,6 +5,7 @@ use Rattle.std.specs.Prelude.{option_map}
 use Rattle.std.specs.Option.{option_or}
 use Rattle.std.proofs.lemmas.List.Elements.{All-nil, All-cons}
 use Rattle.dwc_base.specs.declared.records.Endian.{Endian}
+use Rattle.dwc_base.specs.declared.records.OutputFor.{OutputFor}
 use Rattle.dwc_base.specs.declared.translation.ModuleTranslation.{ModuleTranslation}
 use Rattle.dwc_native.specs.CallFrames.{CommonEntry}
 use Rattle.dwc_native.specs.Functions.{AddressMap, Function, functions_of}
@@ -35,7 +36,7 @@ use Rattle.dwc_carry.proofs.RefusalLaws.{unmapped}
 
 -- functions of good maps have numbers of their own
 abbrev pub MapsNumber : Type 0
-MapsNumber = (code_offset number : ℕ) (maps : List AddressMap) → first_bad_map code_offset 0 maps ≡ None → AreNumbered (functions_of code_offset number maps)
+MapsNumber = (output : OutputFor) (code_offset number : ℕ) (maps : List AddressMap) → first_bad_map code_offset 0 maps ≡ None → AreNumbered (functions_of output code_offset number maps)
 
 abbrev HasNumbers : Module → Type 0
 HasNumbers m = AreNumbered m.functions
@@ -45,15 +46,15 @@ neither None b h = (refl, h)
 neither (Some x) b h = absurd (cc)
 
 module _ (number_maps : MapsNumber) where
-  modules-numbered : (version place number : ℕ) (ts : List ModuleTranslation) (fss : List (List Compiled)) (told : List ToldModule) → bad_map_from place ts fss ≡ None → All HasNumbers (modules_from version number ts fss told)
-  modules-numbered version place number [] fss told h = All-nil HasNumbers
-  modules-numbered version place number (t ∷ ts) [] told h = All-nil HasNumbers
-  modules-numbered version place number (t ∷ ts) (fs ∷ fss) [] h = All-nil HasNumbers
-  modules-numbered version place number (t ∷ ts) (fs ∷ fss) (m ∷ told) h =
+  modules-numbered : (output : OutputFor) (version place number : ℕ) (ts : List ModuleTranslation) (fss : List (List Compiled)) (told : List ToldModule) → bad_map_from place ts fss ≡ None → All HasNumbers (modules_from output version number ts fss told)
+  modules-numbered output version place number [] fss told h = All-nil HasNumbers
+  modules-numbered output version place number (t ∷ ts) [] told h = All-nil HasNumbers
+  modules-numbered output version place number (t ∷ ts) (fs ∷ fss) [] h = All-nil HasNumbers
+  modules-numbered output version place number (t ∷ ts) (fs ∷ fss) (m ∷ told) h =
       let maps = map address_map_view fs in
       let both = neither (option_map (λ bad. (place, bad)) (first_bad_map t.code_section_offset 0 maps)) (bad_map_from (suc place) ts fss) h in
-      All-cons HasNumbers (module_view version number t fs m) (modules_from version (number + length fs) ts fss told) (number_maps t.code_section_offset number maps (unmapped (λ bad. (place, bad)) (first_bad_map t.code_section_offset 0 maps) both.0))
-      (modules-numbered version (suc place) (number + length fs) ts fss told both.1)
+      All-cons HasNumbers (module_view output version number t fs m) (modules_from output version (number + length fs) ts fss told) (number_maps output t.code_section_offset number maps (unmapped (λ bad. (place, bad)) (first_bad_map t.code_section_offset 0 maps) both.0))
+      (modules-numbered output version (suc place) (number + length fs) ts fss told both.1)
 
   -- The units say the trees of an input of which nothing is refused, and so carry its scopes.
   pub scopes-carried : (order : Endian) (size : ℕ) (registers : Registers) (entry : Option CommonEntry) (c : CompilationValue) (texts : List (List ℕ)) (us : List GivenUnit) → refusal_of order size registers entry c ≡ None
@@ -63,7 +64,7 @@ module _ (number_maps : MapsNumber) where
       let input = input_of order size registers entry c in
       let good : bad_map c ≡ None = unmapped _ (bad_map c) (neither (maps_refusal c) (option_map in_reading (first_refusal input)) accepted).0 in
       subst (ScopesCarried (drafts_of (is_big order)) (wanted_units input)) (sym (made-trees (encoding_of input) texts (wanted_units input) (trees_made input) us made))
-      (made-scopes input (modules-numbered c.tunables.dwarf_version 0 0 c.translations c.functions (told_from registers (names_of c) 0 0 c.functions c.memory_offsets) good) keep)
+      (made-scopes input (modules-numbered c.tunables.output_for c.tunables.dwarf_version 0 0 c.translations c.functions (told_from c.tunables.output_for registers (names_of c) 0 0 c.functions c.memory_offsets) good) keep)
 
   -- And so they carry its locations.
   pub locations-carried : (order : Endian) (size : ℕ) (registers : Registers) (entry : Option CommonEntry) (c : CompilationValue) (texts : List (List ℕ)) (us : List GivenUnit) → refusal_of order size registers entry c ≡ None
@@ -74,7 +75,7 @@ module _ (number_maps : MapsNumber) where
       let both = neither (maps_refusal c) (option_map in_reading (first_refusal input)) accepted in
       let good : bad_map c ≡ None = unmapped _ (bad_map c) both.0 in
       let read : first_refusal input ≡ None = unmapped in_reading (first_refusal input) both.1 in
-      let numbered = modules-numbered c.tunables.dwarf_version 0 0 c.translations c.functions (told_from registers (names_of c) 0 0 c.functions c.memory_offsets) good in
+      let numbered = modules-numbered c.tunables.output_for c.tunables.dwarf_version 0 0 c.translations c.functions (told_from c.tunables.output_for registers (names_of c) 0 0 c.functions c.memory_offsets) good in
       subst (LocationsCarried (drafts_of (is_big order)) (wanted_units input)) (sym (made-trees (encoding_of input) texts (wanted_units input) (trees_made input) us made))
       (made-locations input numbered keep read (simulated_unit-located (drafts_of (is_big order)) input numbered keep read))
 
@@ -88,4 +89,4 @@ module _ (number_maps : MapsNumber) where
       let good : bad_map c ≡ None = unmapped _ (bad_map c) both.0 in
       let read : first_refusal input ≡ None = unmapped in_reading (first_refusal input) both.1 in
       subst (ContextsCarried (drafts_of (is_big order)) (wanted_units input)) (sym (made-trees (encoding_of input) texts (wanted_units input) (trees_made input) us made))
-      (made-contexts input (modules-numbered c.tunables.dwarf_version 0 0 c.translations c.functions (told_from registers (names_of c) 0 0 c.functions c.memory_offsets) good) keep read)
+      (made-contexts input (modules-numbered c.tunables.output_for c.tunables.dwarf_version 0 0 c.translations c.functions (told_from c.tunables.output_for registers (names_of c) 0 0 c.functions c.memory_offsets) good) keep read)

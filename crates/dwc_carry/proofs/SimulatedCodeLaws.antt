@@ -9,6 +9,7 @@ use Rattle.std.proofs.lemmas.List.{length-map}
 use Rattle.std.proofs.lemmas.List.Elements.{All-nil, All-cons, All-head, All-tail, All-append, All-map, filter_map-append}
 use Rattle.dwc_base.specs.declared.records.MapFault.{MapFault}
 use Rattle.dwc_base.specs.declared.records.MapFault.TheVariants.{BodyOffset, BeforeCodeSection, Reversed, CodeFalls, CodePastBody, SourceOutside}
+use Rattle.dwc_base.specs.declared.records.OutputFor.{OutputFor}
 use Rattle.dwc_base.specs.declared.translation.ModuleTranslation.{ModuleTranslation}
 use Rattle.dwc_native.specs.Addends.{HaveAddends, is_long, longest_function}
 use Rattle.dwc_rules.specs.Carried.{Module}
@@ -44,24 +45,24 @@ module-left translated code_offset place (f ∷ fs) = go (is_simulated translate
     go true more = ap (λ (xs : List (ℕ × Function)). (code_offset, f) ∷ xs) more
     go false more = more
 
-modules-left : (translated : ℕ → Bool) (version number : ℕ) (ts : List ModuleTranslation) (fss : List (List Compiled)) (told : List ToldModule) → length fss ≡ length ts → length told ≡ length ts
-    → left_in translated ts (functions_from number ts fss) ≡ simulated_in_files translated (modules_from version number ts fss told)
+modules-left : (output : OutputFor) (translated : ℕ → Bool) (version number : ℕ) (ts : List ModuleTranslation) (fss : List (List Compiled)) (told : List ToldModule) → length fss ≡ length ts → length told ≡ length ts
+    → left_in translated ts (functions_from output number ts fss) ≡ simulated_in_files translated (modules_from output version number ts fss told)
 unfolding simulated_functions
-modules-left translated version number [] fss told same counted = refl
-modules-left translated version number (t ∷ ts) [] told same counted = absurd (omega (arith, same))
-modules-left translated version number (t ∷ ts) (fs ∷ fss) [] same counted = absurd (omega (arith, counted))
-modules-left translated version number (t ∷ ts) (fs ∷ fss) (x ∷ told) same counted =
+modules-left output translated version number [] fss told same counted = refl
+modules-left output translated version number (t ∷ ts) [] told same counted = absurd (omega (arith, same))
+modules-left output translated version number (t ∷ ts) (fs ∷ fss) [] same counted = absurd (omega (arith, counted))
+modules-left output translated version number (t ∷ ts) (fs ∷ fss) (x ∷ told) same counted =
     ap₂ (λ (xs ys : List (ℕ × Function)). xs ++ ys)
-    (module-left translated t.code_section_offset 0 (functions_of t.code_section_offset number (map address_map_view fs)))
-    (modules-left translated version (number + length fs) ts fss told (omega (arith, same)) (omega (arith, counted)))
+    (module-left translated t.code_section_offset 0 (functions_of output t.code_section_offset number (map address_map_view fs)))
+    (modules-left output translated version (number + length fs) ts fss told (omega (arith, same)) (omega (arith, counted)))
 
 -- The functions that are left by the translated numbers are the simulated ones.
 pub all-left : (registers : Registers) (c : CompilationValue) (translated : ℕ → Bool) → IsCounted c.translations c.functions c.memory_offsets
-    → left_in translated c.translations (functions_from 0 c.translations c.functions) ≡ simulated_in_files translated (modules_of registers c)
+    → left_in translated c.translations (functions_from c.tunables.output_for 0 c.translations c.functions) ≡ simulated_in_files translated (modules_of registers c)
 all-left registers c translated counted =
     let same = counted-length c.translations c.functions c.memory_offsets counted in
-    modules-left translated c.tunables.dwarf_version 0 c.translations c.functions (told_from registers (names_of c) 0 0 c.functions c.memory_offsets) same
-    (told-length registers (names_of c) 0 0 c.functions c.memory_offsets (counted.offsets_given ∙ sym same) ∙ same)
+    modules-left c.tunables.output_for translated c.tunables.dwarf_version 0 c.translations c.functions (told_from c.tunables.output_for registers (names_of c) 0 0 c.functions c.memory_offsets) same
+    (told-length c.tunables.output_for registers (names_of c) 0 0 c.functions c.memory_offsets (counted.offsets_given ∙ sym same) ∙ same)
 
 -- ---- their intervals
 
@@ -113,8 +114,8 @@ entries-low code_offset start end len code (e ∷ es) from low h = go (nat_lt e.
     go false false false is more h = absurd (cc)
     go false false true is more h = one e.1 is (more h)
 
-lines-low : (code_offset number : ℕ) (m : AddressMap) → map_fault code_offset m ≡ None → IsLow m → All (HasLine code_offset) (recorded_sources (function_of code_offset number m))
-lines-low code_offset number m h low = go (m.body_offset == 0) m.start m.end low h
+lines-low : (output : OutputFor) (code_offset number : ℕ) (m : AddressMap) → map_fault code_offset m ≡ None → IsLow m → All (HasLine code_offset) (recorded_sources (function_of output code_offset number m))
+lines-low output code_offset number m h low = go (m.body_offset == 0) m.start m.end low h
   where
     inner : (start end : ℕ) (a b : Bool) → nat_lt start code_offset ≡ a → end < 2 ^ 32
         → ◌≡◌ {A = Option MapFault} (if a then Some BeforeCodeSection else (if b then Some Reversed else entry_fault start end m.body_len 0 m.entries)) None → All (HasLine code_offset) (sources_in code_offset m.entries)
@@ -129,9 +130,10 @@ lines-low code_offset number m h low = go (m.body_offset == 0) m.start m.end low
     go true (Some start) (Some end) low h = inner start end (nat_lt start code_offset) (nat_lt end start) refl low h
 
 -- the function of a good map is ordered
-ordered-one : (code_offset number : ℕ) (m : AddressMap) → map_fault code_offset m ≡ None → IsOrdered (function_of code_offset number m)
-ordered-one code_offset number m good =
-    All-head IsOrdered (function_of code_offset number m) [] (kept-ordered (function_of code_offset number m ∷ []) (record {
+ordered-one : (output : OutputFor) (code_offset number : ℕ) (m : AddressMap) → map_fault code_offset m ≡ None → IsOrdered (function_of output code_offset number m)
+ordered-one output code_offset number m good =
+    All-head IsOrdered (function_of output code_offset number m) [] (kept-ordered (function_of output code_offset number m ∷ []) (record {
+      output = output;
       code_offset = code_offset;
       first_number = number;
       maps = m ∷ [];
@@ -153,46 +155,46 @@ fit-more translated code_offset f rest ordered lines short more = go (is_simulat
     go false is = more
     go true is = All-cons CanWrite (code_offset, f) rest (record { lists = record { order = ordered; lines = lines }; short = short-one translated f is short }) more
 
-module-fits : (translated : ℕ → Bool) (code_offset number : ℕ) (ms : List AddressMap) → All (λ m. map_fault code_offset m ≡ None) ms → All IsLow ms → All (λ f. is_long f ≡ false) (functions_of code_offset number ms)
-    → All CanWrite (left_of translated code_offset (functions_of code_offset number ms))
-module-fits translated code_offset number [] good low short = All-nil CanWrite
-module-fits translated code_offset number (m ∷ ms) good low short =
+module-fits : (output : OutputFor) (translated : ℕ → Bool) (code_offset number : ℕ) (ms : List AddressMap) → All (λ m. map_fault code_offset m ≡ None) ms → All IsLow ms → All (λ f. is_long f ≡ false) (functions_of output code_offset number ms)
+    → All CanWrite (left_of translated code_offset (functions_of output code_offset number ms))
+module-fits output translated code_offset number [] good low short = All-nil CanWrite
+module-fits output translated code_offset number (m ∷ ms) good low short =
     let here = All-head (λ (n : AddressMap). map_fault code_offset n ≡ None) m ms good in
-    let rest = functions_of code_offset (number + 1) ms in
-    fit-more translated code_offset (function_of code_offset number m) (left_of translated code_offset rest) (ordered-one code_offset number m here) (lines-low code_offset number m here (All-head IsLow m ms low))
-    (All-head (λ (g : Function). is_long g ≡ false) (function_of code_offset number m) rest short)
-    (module-fits translated code_offset (number + 1) ms (All-tail (λ (n : AddressMap). map_fault code_offset n ≡ None) m ms good) (All-tail IsLow m ms low)
-    (All-tail (λ (g : Function). is_long g ≡ false) (function_of code_offset number m) rest short))
+    let rest = functions_of output code_offset (number + 1) ms in
+    fit-more translated code_offset (function_of output code_offset number m) (left_of translated code_offset rest) (ordered-one output code_offset number m here) (lines-low output code_offset number m here (All-head IsLow m ms low))
+    (All-head (λ (g : Function). is_long g ≡ false) (function_of output code_offset number m) rest short)
+    (module-fits output translated code_offset (number + 1) ms (All-tail (λ (n : AddressMap). map_fault code_offset n ≡ None) m ms good) (All-tail IsLow m ms low)
+    (All-tail (λ (g : Function). is_long g ≡ false) (function_of output code_offset number m) rest short))
 
 neither : {A : Type 0} (o p : Option A) → option_or o p ≡ None → (o ≡ None) × (p ≡ None)
 neither None p h = (refl, h)
 neither (Some x) p h = absurd (cc)
 
-modules-fit : (translated : ℕ → Bool) (number place : ℕ) (ts : List ModuleTranslation) (fss : List (List Compiled)) → bad_map_from place ts fss ≡ None → All (All HasLowEnd) fss → All HaveAddends (functions_from number ts fss)
-    → All CanWrite (left_in translated ts (functions_from number ts fss))
-modules-fit translated number place [] fss good low addends = All-nil CanWrite
-modules-fit translated number place (t ∷ ts) [] good low addends = All-nil CanWrite
-modules-fit translated number place (t ∷ ts) (fs ∷ fss) good low addends =
+modules-fit : (output : OutputFor) (translated : ℕ → Bool) (number place : ℕ) (ts : List ModuleTranslation) (fss : List (List Compiled)) → bad_map_from place ts fss ≡ None → All (All HasLowEnd) fss → All HaveAddends (functions_from output number ts fss)
+    → All CanWrite (left_in translated ts (functions_from output number ts fss))
+modules-fit output translated number place [] fss good low addends = All-nil CanWrite
+modules-fit output translated number place (t ∷ ts) [] good low addends = All-nil CanWrite
+modules-fit output translated number place (t ∷ ts) (fs ∷ fss) good low addends =
     let maps = map address_map_view fs in
     let two = neither (option_map (λ (bad : ℕ × MapFault). (place, bad)) (first_bad_map t.code_section_offset 0 maps)) (bad_map_from (suc place) ts fss) good in
-    let gs = functions_of t.code_section_offset number maps in
-    let rest = functions_from (number + length fs) ts fss in
+    let gs = functions_of output t.code_section_offset number maps in
+    let rest = functions_from output (number + length fs) ts fss in
     All-append CanWrite (left_of translated t.code_section_offset gs) (left_in translated ts rest)
-    (module-fits translated t.code_section_offset number maps
+    (module-fits output translated t.code_section_offset number maps
     (all-good t.code_section_offset 0 maps (unmapped (λ (bad : ℕ × MapFault). (place, bad)) (first_bad_map t.code_section_offset 0 maps) two.0))
     (All-map IsLow address_map_view fs (All-head (All HasLowEnd) fs fss low)) (All-head HaveAddends gs rest addends).short)
-    (modules-fit translated (number + length fs) (suc place) ts fss two.1 (All-tail (All HasLowEnd) fs fss low) (All-tail HaveAddends gs rest addends))
+    (modules-fit output translated (number + length fs) (suc place) ts fss two.1 (All-tail (All HasLowEnd) fs fss low) (All-tail HaveAddends gs rest addends))
 
 -- Where no address map is bad, all that are left can be written.
-pub all-fit : (translated : ℕ → Bool) (c : CompilationValue) → bad_map c ≡ None → All (All HasLowEnd) c.functions → All HaveAddends (functions_from 0 c.translations c.functions)
-    → All CanWrite (left_in translated c.translations (functions_from 0 c.translations c.functions))
-all-fit translated c good low addends = modules-fit translated 0 0 c.translations c.functions good low addends
+pub all-fit : (translated : ℕ → Bool) (c : CompilationValue) → bad_map c ≡ None → All (All HasLowEnd) c.functions → All HaveAddends (functions_from c.tunables.output_for 0 c.translations c.functions)
+    → All CanWrite (left_in translated c.translations (functions_from c.tunables.output_for 0 c.translations c.functions))
+all-fit translated c good low addends = modules-fit c.tunables.output_for translated 0 0 c.translations c.functions good low addends
 
 -- ---- their first lines
 
 -- the start of a good map, whose end is low, is a line of its file
-start-low : (code_offset number : ℕ) (m : AddressMap) → map_fault code_offset m ≡ None → IsLow m → code_offset + (function_of code_offset number m).start < 2 ^ 32
-start-low code_offset number m h low = go (m.body_offset == 0) m.start m.end low h
+start-low : (output : OutputFor) (code_offset number : ℕ) (m : AddressMap) → map_fault code_offset m ≡ None → IsLow m → code_offset + (function_of output code_offset number m).start < 2 ^ 32
+start-low output code_offset number m h low = go (m.body_offset == 0) m.start m.end low h
   where
     inner : (start end : ℕ) (a b : Bool) → nat_lt start code_offset ≡ a → nat_lt end start ≡ b → end < 2 ^ 32
         → ◌≡◌ {A = Option MapFault} (if a then Some BeforeCodeSection else (if b then Some Reversed else entry_fault start end m.body_len 0 m.entries)) None → code_offset + (start - code_offset) < 2 ^ 32
@@ -213,54 +215,54 @@ first-line code_offset f start lines = go (recorded_sources f) lines
     go [] all = start
     go (e ∷ es) all = All-head (HasLine code_offset) e es all
 
-module-lines : (code_offset number : ℕ) (ms : List AddressMap) → All (λ m. map_fault code_offset m ≡ None) ms → All IsLow ms → All (HasFirstLine code_offset) (functions_of code_offset number ms)
-module-lines code_offset number [] good low = All-nil (HasFirstLine code_offset)
-module-lines code_offset number (m ∷ ms) good low =
-    let f = function_of code_offset number m in
+module-lines : (output : OutputFor) (code_offset number : ℕ) (ms : List AddressMap) → All (λ m. map_fault code_offset m ≡ None) ms → All IsLow ms → All (HasFirstLine code_offset) (functions_of output code_offset number ms)
+module-lines output code_offset number [] good low = All-nil (HasFirstLine code_offset)
+module-lines output code_offset number (m ∷ ms) good low =
+    let f = function_of output code_offset number m in
     let here = All-head (λ (n : AddressMap). map_fault code_offset n ≡ None) m ms good in
     let here_low = All-head IsLow m ms low in
-    All-cons (HasFirstLine code_offset) f (functions_of code_offset (number + 1) ms) (first-line code_offset f (start-low code_offset number m here here_low) (lines-low code_offset number m here here_low))
-    (module-lines code_offset (number + 1) ms (All-tail (λ (n : AddressMap). map_fault code_offset n ≡ None) m ms good) (All-tail IsLow m ms low))
+    All-cons (HasFirstLine code_offset) f (functions_of output code_offset (number + 1) ms) (first-line code_offset f (start-low output code_offset number m here here_low) (lines-low output code_offset number m here here_low))
+    (module-lines output code_offset (number + 1) ms (All-tail (λ (n : AddressMap). map_fault code_offset n ≡ None) m ms good) (All-tail IsLow m ms low))
 
-modules-lines : (number place : ℕ) (ts : List ModuleTranslation) (fss : List (List Compiled)) (i : ℕ) (t : ModuleTranslation) (gs : List Function) → bad_map_from place ts fss ≡ None → All (All HasLowEnd) fss → i < length (functions_from number ts fss)
-    → All (HasFirstLine (get_or ts i t).code_section_offset) (get_or (functions_from number ts fss) i gs)
-modules-lines number place [] fss i t gs good low inside = absurd (omega (arith, inside))
-modules-lines number place (x ∷ ts) [] i t gs good low inside = absurd (omega (arith, inside))
-modules-lines number place (x ∷ ts) (fs ∷ fss) zero t gs good low inside =
+modules-lines : (output : OutputFor) (number place : ℕ) (ts : List ModuleTranslation) (fss : List (List Compiled)) (i : ℕ) (t : ModuleTranslation) (gs : List Function) → bad_map_from place ts fss ≡ None → All (All HasLowEnd) fss → i < length (functions_from output number ts fss)
+    → All (HasFirstLine (get_or ts i t).code_section_offset) (get_or (functions_from output number ts fss) i gs)
+modules-lines output number place [] fss i t gs good low inside = absurd (omega (arith, inside))
+modules-lines output number place (x ∷ ts) [] i t gs good low inside = absurd (omega (arith, inside))
+modules-lines output number place (x ∷ ts) (fs ∷ fss) zero t gs good low inside =
     let maps = map address_map_view fs in
     let here = (neither (option_map (λ (bad : ℕ × MapFault). (place, bad)) (first_bad_map x.code_section_offset 0 maps)) (bad_map_from (suc place) ts fss) good).0 in
-    module-lines x.code_section_offset number maps (all-good x.code_section_offset 0 maps (unmapped (λ (bad : ℕ × MapFault). (place, bad)) (first_bad_map x.code_section_offset 0 maps) here))
+    module-lines output x.code_section_offset number maps (all-good x.code_section_offset 0 maps (unmapped (λ (bad : ℕ × MapFault). (place, bad)) (first_bad_map x.code_section_offset 0 maps) here))
     (All-map IsLow address_map_view fs (All-head (All HasLowEnd) fs fss low))
-modules-lines number place (x ∷ ts) (fs ∷ fss) (suc i) t gs good low inside =
+modules-lines output number place (x ∷ ts) (fs ∷ fss) (suc i) t gs good low inside =
     let maps = map address_map_view fs in
     let rest = (neither (option_map (λ (bad : ℕ × MapFault). (place, bad)) (first_bad_map x.code_section_offset 0 maps)) (bad_map_from (suc place) ts fss) good).1 in
-    modules-lines (number + length fs) (suc place) ts fss i t gs rest (All-tail (All HasLowEnd) fs fss low) (omega (arith, inside))
+    modules-lines output (number + length fs) (suc place) ts fss i t gs rest (All-tail (All HasLowEnd) fs fss low) (omega (arith, inside))
 
-functions-count : (code_offset number : ℕ) (ms : List AddressMap) → length (functions_of code_offset number ms) ≡ length ms
-functions-count code_offset number [] = refl
-functions-count code_offset number (m ∷ ms) = omega (arith, functions-count code_offset (number + 1) ms)
+functions-count : (output : OutputFor) (code_offset number : ℕ) (ms : List AddressMap) → length (functions_of output code_offset number ms) ≡ length ms
+functions-count output code_offset number [] = refl
+functions-count output code_offset number (m ∷ ms) = omega (arith, functions-count output code_offset (number + 1) ms)
 
 -- a module has no more functions than all have
-module-count : (number : ℕ) (ts : List ModuleTranslation) (fss : List (List Compiled)) (i : ℕ) (gs : List Function) → i < length (functions_from number ts fss) → length (get_or (functions_from number ts fss) i gs) ≤ function_count fss
-module-count number [] fss i gs inside = absurd (omega (arith, inside))
-module-count number (t ∷ ts) [] i gs inside = absurd (omega (arith, inside))
-module-count number (t ∷ ts) (fs ∷ fss) zero gs inside =
-    omega (arith, functions-count t.code_section_offset number (map address_map_view fs), length-map fs address_map_view)
-module-count number (t ∷ ts) (fs ∷ fss) (suc i) gs inside = omega (arith, module-count (number + length fs) ts fss i gs (omega (arith, inside)))
+module-count : (output : OutputFor) (number : ℕ) (ts : List ModuleTranslation) (fss : List (List Compiled)) (i : ℕ) (gs : List Function) → i < length (functions_from output number ts fss) → length (get_or (functions_from output number ts fss) i gs) ≤ function_count fss
+module-count output number [] fss i gs inside = absurd (omega (arith, inside))
+module-count output number (t ∷ ts) [] i gs inside = absurd (omega (arith, inside))
+module-count output number (t ∷ ts) (fs ∷ fss) zero gs inside =
+    omega (arith, functions-count output t.code_section_offset number (map address_map_view fs), length-map fs address_map_view)
+module-count output number (t ∷ ts) (fs ∷ fss) (suc i) gs inside = omega (arith, module-count output (number + length fs) ts fss i gs (omega (arith, inside)))
 
-module _ (c : CompilationValue) (transforms : List (List Function)) (i : ℕ) (fs : List Function) (made : transforms ≡ functions_from 0 c.translations c.functions) (inside : i < length transforms) (at_fs : fs ≡ get_or transforms i fs) where
-  there : fs ≡ get_or (functions_from 0 c.translations c.functions) i fs
+module _ (c : CompilationValue) (transforms : List (List Function)) (i : ℕ) (fs : List Function) (made : transforms ≡ functions_from c.tunables.output_for 0 c.translations c.functions) (inside : i < length transforms) (at_fs : fs ≡ get_or transforms i fs) where
+  there : fs ≡ get_or (functions_from c.tunables.output_for 0 c.translations c.functions) i fs
   there = at_fs ∙ ap (λ (gss : List (List Function)). get_or gss i fs) made
 
-  within : i < length (functions_from 0 c.translations c.functions)
+  within : i < length (functions_from c.tunables.output_for 0 c.translations c.functions)
   within = omega (arith, inside, ap length made)
 
   -- Where no address map is bad, the first source of each function of a module is a line of its file.
   pub first-lines : (t : ModuleTranslation) → t ≡ get_or c.translations i t → bad_map c ≡ None → All (All HasLowEnd) c.functions → All (HasFirstLine t.code_section_offset) fs
   first-lines t at_t good low =
       subst (λ (x : ModuleTranslation). All (HasFirstLine x.code_section_offset) fs) (sym at_t)
-      (subst (All (HasFirstLine (get_or c.translations i t).code_section_offset)) (sym there) (modules-lines 0 0 c.translations c.functions i t fs good low within))
+      (subst (All (HasFirstLine (get_or c.translations i t).code_section_offset)) (sym there) (modules-lines c.tunables.output_for 0 0 c.translations c.functions i t fs good low within))
 
   -- A module has fewer than 2 ^ 32 functions.
   pub few-functions : IsCounted c.translations c.functions c.memory_offsets → length fs < 2 ^ 32
-  few-functions counted = omega (arith, ap length there, module-count 0 c.translations c.functions i fs within, counted.few_functions)
+  few-functions counted = omega (arith, ap length there, module-count c.tunables.output_for 0 c.translations c.functions i fs within, counted.few_functions)

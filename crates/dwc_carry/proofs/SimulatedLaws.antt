@@ -10,6 +10,7 @@ use Rattle.dwc_rules.specs.Carried.{Module}
 use Rattle.dwc_carried.specs.DefinedFunctions.{DefinedFunction}
 use Rattle.dwc_rules.specs.DraftForests.{settled_entry}
 use Rattle.dwc_rules.specs.Drafts.{Draft}
+use Rattle.dwc_rules.specs.Scopes.{source_range}
 use Rattle.dwc_native.specs.Functions.{Function}
 use Rattle.dwc_native.specs.Parts.{context_label}
 use Rattle.dwc_carried.specs.SimulatedUnit.{base_type, base_types, context_entry, first_source, function_entry, function_index, function_name, label_locations, local_entry, local_name, local_tag, surroundings_of}
@@ -144,9 +145,9 @@ module _ (number : ℕ) (texts : List (List ℕ)) where
   }
 
 -- Where a label lies over all of a function, by what surrounds it.
-pub located-is : (m : Module) (f : Function) (label : ℕ) (s : Surroundings) → s ≡ surroundings_of m f → label_over s ((f.start, f.end) ∷ []) label ≡ label_locations m f label
+pub located-is : (m : Module) (f : Function) (label : ℕ) (s : Surroundings) → s ≡ surroundings_of m f → label_over s (source_range f) label ≡ label_locations m f label
 unfolding label_locations
-located-is m f label s is = ap (λ x. label_over x ((f.start, f.end) ∷ []) label) is
+located-is m f label s is = ap (λ x. label_over x (source_range f) label) is
 
 -- ---- the whole of each call
 

@@ -4,10 +4,11 @@ use Rattle.std.specs.Prelude.{is_some}
 use Rattle.std.specs.List.{flat_map}
 use Rattle.std.proofs.lemmas.List.{length-map}
 use Rattle.dwc_base.specs.declared.records.Encoding.{Encoding}
+use Rattle.dwc_base.specs.declared.records.OutputFor.{OutputFor}
 use Rattle.dwc_rules.specs.Carried.{Module, WantedUnit}
 use Rattle.dwc_rules.specs.DraftForests.{settled_unit}
 use Rattle.dwc_rules.specs.Drafts.{Draft}
-use Rattle.dwc_carried.specs.SimulatedUnit.{base_types, modules_entries, simulated_root, simulated_unit, whole_intervals}
+use Rattle.dwc_carried.specs.SimulatedUnit.{base_types, modules_entries, output_of, simulated_root, simulated_unit, whole_intervals}
 use Rattle.dwc_dwarf.specs.Trees.{TreeValue}
 use Rattle.dwc_unit.specs.declared.lists.RangeList.{RangeList}
 use Rattle.dwc_unit.specs.AddedInOrder.{with_entry}
@@ -25,8 +26,8 @@ use Rattle.dwc_carry.proofs.SimulatedMoves.{unit-moves}
 
 -- ---- what it begins with
 
-pub begins-root : (encoding : Encoding) (lines : GivenLines) (t : RootTexts) (list : RangeList) → BeginsWith encoding lines (simulated_root_addition t list) (root_given encoding.version encoding.address_size lines t list)
-begins-root encoding lines t list = record { version_is = refl; size_is = refl; lines_are = refl; others = []; is = refl }
+pub begins-root : (output : OutputFor) (encoding : Encoding) (lines : GivenLines) (t : RootTexts) (list : RangeList) → BeginsWith encoding lines (simulated_root_addition output t list) (root_given output encoding.version encoding.address_size lines t list)
+begins-root output encoding lines t list = record { version_is = refl; size_is = refl; lines_are = refl; others = []; is = refl }
 
 pub begins-more : (encoding : Encoding) (lines : GivenLines) (root e : Addition) (u : GivenUnit) → BeginsWith encoding lines root u → BeginsWith encoding lines root (with_entry e u)
 begins-more encoding lines root e u begins = record {
@@ -44,8 +45,8 @@ begins-all encoding lines root (e ∷ es) u begins = begins-all encoding lines r
 -- ---- the whole
 
 -- It can be written, where its line program is ended.
-pub writable : (encoding : Encoding) (lines : GivenLines) (t : RootTexts) (list : RangeList) (u : GivenUnit) → lines.begun ≡ None → lines.address_size ≡ Some encoding.address_size → BeginsWith encoding lines (simulated_root_addition t list) u → IsWritable encoding.version encoding.address_size (ordered u)
-writable encoding lines t list u ended sized begins = record {
+pub writable : (output : OutputFor) (encoding : Encoding) (lines : GivenLines) (t : RootTexts) (list : RangeList) (u : GivenUnit) → lines.begun ≡ None → lines.address_size ≡ Some encoding.address_size → BeginsWith encoding lines (simulated_root_addition output t list) u → IsWritable encoding.version encoding.address_size (ordered u)
+writable output encoding lines t list u ended sized begins = record {
   version = begins.version_is;
   size = begins.size_is;
   ended = ap (λ (l : GivenLines). l.begun) begins.lines_are ∙ ended;
@@ -78,7 +79,7 @@ unfolding simulated_unit
 whole-made translated at encoding table w path number pointers ms u lines so leads can =
     let order = so.drafted.order in
     let behind = modules_entries translated number pointers ms in
-    let root = simulated_root path (flat_map (whole_intervals translated) ms) in
+    let root = simulated_root (output_of ms) path (flat_map (whole_intervals translated) ms) in
     let counted : length (draft_depths (root ∷ (base_types ++ behind))) ≡ suc (suc (suc (suc (suc (length behind))))) = length-map (root ∷ (base_types ++ behind)) (λ (d : Draft). d.depth) in
     let types : (place : ℕ) → place < 5 → at number place ≡ Some (number, place) = λ place below. place-there at number place u leads so.dense (omega (arith, below, counted, order.counted)) in
     simulated-made at encoding table number w (simulated_unit translated path number pointers ms) (simulated_unit translated path number (map (renumbered at) pointers) ms) u lines so (unit-moves at translated path number pointers ms types) can

@@ -12,13 +12,15 @@ use Rattle.dwc_rules.specs.Drafts.{Draft, Goal, done}
 use Rattle.dwc_carried.specs.SimulatedFunctions.{simulated_functions}
 use Rattle.dwc_rules.specs.MadeEntries.{made, named}
 use Rattle.dwc_native.specs.Parts.{context_label}
-use Rattle.dwc_carried.specs.SimulatedUnit.{base_types, context_entry, function_entries, function_entry, label_entry, local_entry, local_name, local_tag, label_locations, modules_entries, place_of_type, simulated_root, simulated_unit, type_place, whole_intervals}
+use Rattle.dwc_carried.specs.SimulatedUnit.{base_types, context_entry, function_entries, function_entry, label_entry, label_locations, local_entry, local_name, local_tag, modules_entries, output_of, place_of_type, simulated_root, simulated_unit, type_place, whole_intervals}
 use Rattle.dwc_base.specs.ToldFiles.{type_of_local}
 use Rattle.dwc_output.specs.TreeReading.{entry_or_nothing}
-use Rattle.dwc_dwarf.specs.Trees.{Location, TreeEntry, TreeValue, locations, text}
+use Rattle.dwc_dwarf.specs.Trees.{Location, TreeEntry, TreeValue, locations, text, Interval}
 use Rattle.dwc_base.specs.declared.constants.TheConstants.{DW_AT_location, DW_AT_name, DW_AT_type, DW_TAG_variable}
 use Rattle.dwc_base.specs.declared.translation.ValType.{ValType}
 use Rattle.dwc_base.specs.declared.translation.ValType.TheVariants.{I32, I64, F32, F64, Other}
+use Rattle.dwc_base.specs.declared.records.OutputFor.{OutputFor}
+use Rattle.dwc_base.specs.declared.records.OutputFor.TheVariants.{Debugger, Default}
 use Rattle.dwc_unit.specs.Renumbered.{renumbered, renumbered_entry}
 
 module _ (at : ℕ → ℕ → Option (ℕ × ℕ)) where
@@ -105,10 +107,16 @@ module _ (at : ℕ → ℕ → Option (ℕ × ℕ)) where
         (lists-move (function_entries unit pointer m) (function_entries unit (renumbered at pointer) m) (λ d. function-moves pointer m d) (simulated_functions translated m))
         (modules-move translated pointers ms)
 
+  -- the root and the types name no entry
+  front-moves : (output : OutputFor) (path : List ℕ) (whole : List Interval) → AllMove (simulated_root output path whole ∷ base_types) (simulated_root output path whole ∷ base_types)
+  front-moves Default path whole = refl
+  front-moves Debugger path whole = refl
+
   -- The unit has the types of pointers to contexts put to places, where the types of numbers stay.
   pub unit-moves : (translated : ℕ → Bool) (path : List ℕ) (unit : ℕ) (pointers : List TreeValue) (ms : List Module) → ((place : ℕ) → place < 5 → at unit place ≡ Some (unit, place))
       → map (renumbered_entry at) (settled_unit (λ goal. None) (simulated_unit translated path unit pointers ms)) ≡ settled_unit (λ goal. None) (simulated_unit translated path unit (map (renumbered at) pointers) ms)
   unfolding simulated_unit
   unit-moves translated path unit pointers ms types =
-      let front : List Draft = simulated_root path (flat_map (whole_intervals translated) ms) ∷ base_types in
-      both-move front front (modules_entries translated unit pointers ms) (modules_entries translated unit (map (renumbered at) pointers) ms) refl (modules-move unit types translated pointers ms)
+      let root = simulated_root (output_of ms) path (flat_map (whole_intervals translated) ms) in
+      let front : List Draft = root ∷ base_types in
+      both-move front front (modules_entries translated unit pointers ms) (modules_entries translated unit (map (renumbered at) pointers) ms) (front-moves (output_of ms) path (flat_map (whole_intervals translated) ms)) (modules-move unit types translated pointers ms)

@@ -8,7 +8,7 @@ use Rattle.dwc_carried.specs.DefinedFunctions.{DefinedFunction}
 use Rattle.dwc_rules.specs.Drafts.{Draft}
 use Rattle.dwc_carried.specs.SimulatedFunctions.{simulated_functions}
 use Rattle.dwc_native.specs.Parts.{context_label}
-use Rattle.dwc_carried.specs.SimulatedUnit.{base_types, context_entry, first_source, function_entries, function_entry, function_index, function_name, label_entry, label_locations, local_entry, local_name, local_tag, modules_entries, simulated_root, simulated_unit, type_place, whole_intervals}
+use Rattle.dwc_carried.specs.SimulatedUnit.{base_types, context_entry, first_source, function_entries, function_entry, function_index, function_name, label_entry, label_locations, local_entry, local_name, local_tag, modules_entries, output_of, simulated_root, simulated_unit, type_place, whole_intervals}
 use Rattle.dwc_dwarf.specs.Trees.{TreeValue}
 use Rattle.dwc_unit.specs.declared.attributes.DebugInfoRef.{DebugInfoRef}
 use Rattle.dwc_unit.specs.LocationLists.{LocationList}
@@ -93,10 +93,10 @@ module _ (number : ℕ) (pointer : TreeValue) (m : Module) (behind whole : List 
 -- ---- modules
 
 -- Behind the root and the types all modules are left.
-pub modules-begun : (translated : ℕ → Bool) (number : ℕ) (pointers : List TreeValue) (texts : List (List ℕ)) (path : List ℕ) (ms : List Module) (u : GivenUnit) → IsSimulated number texts (simulated_root path (flat_map (whole_intervals translated) ms) ∷ base_types) u
+pub modules-begun : (translated : ℕ → Bool) (number : ℕ) (pointers : List TreeValue) (texts : List (List ℕ)) (path : List ℕ) (ms : List Module) (u : GivenUnit) → IsSimulated number texts (simulated_root (output_of ms) path (flat_map (whole_intervals translated) ms) ∷ base_types) u
     → HasModules translated number pointers texts (simulated_unit translated path number pointers ms) ms u
 unfolding simulated_unit
-modules-begun translated number pointers texts path ms u made = record { ds = simulated_root path (flat_map (whole_intervals translated) ms) ∷ base_types; made = made; all = refl }
+modules-begun translated number pointers texts path ms u made = record { ds = simulated_root (output_of ms) path (flat_map (whole_intervals translated) ms) ∷ base_types; made = made; all = refl }
 
 module _ (translated : ℕ → Bool) (number : ℕ) (pointer : TreeValue) (pointers : List TreeValue) (m : Module) (ms : List Module) (whole : List Draft) (texts : List (List ℕ)) (u : GivenUnit) where
   -- A module is begun: all its simulated functions are left.

@@ -21,6 +21,7 @@ use Rattle.dwc_rules.specs.SyntheticUnit.{place_of_context_pointer}
 use Rattle.dwc_native.specs.Parts.{context_label}
 use Rattle.dwc_native.specs.ScopesKept.{native_of_intervals}
 use Rattle.dwc_rules.specs.Refusals.{Refusal}
+use Rattle.dwc_rules.specs.Scopes.{source_end}
 use Rattle.dwc_base.specs.Listing.{first_of}
 use Rattle.dwc_native.specs.ScopesKept.{AreNumbered, TranslationsKeepScopes}
 use Rattle.dwc_carried.specs.SimulatedLocations.{LabelUse, uses_in_function, label_uses, IsLabelLocated, LocatesLabels}
@@ -56,7 +57,7 @@ located-where f (Err e) h = absurd (cc)
 -- the translation of a function's source keeps it as a scope
 keeps-source : (m : Module) (f : Function) → AreNumbered m.functions → TranslationsKeepScopes m.functions → KeepsSource m f
 unfolding native_of_intervals
-keeps-source m f numbered keep = keep numbered (record { begin = Constant f.start; end = Constant f.end } ∷ [])
+keeps-source m f numbered keep = keep numbered (record { begin = Constant f.start; end = Constant (source_end f) } ∷ [])
 
 module _ (m : Module) (numbered : AreNumbered m.functions) (keep : TranslationsKeepScopes m.functions) (unit : ℕ) (pointer : TreeValue) where
   module _ (d : DefinedFunction) where

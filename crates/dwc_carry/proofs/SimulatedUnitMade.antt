@@ -6,6 +6,7 @@ use Rattle.std.proofs.lemmas.List.{append-nil, length-map}
 use Rattle.std.proofs.lemmas.List.Elements.{All-weaker}
 use Rattle.std.proofs.lemmas.List.Sums.{sum_by-cons}
 use Rattle.dwc_base.specs.declared.records.Encoding.{Encoding}
+use Rattle.dwc_base.specs.declared.records.OutputFor.{OutputFor}
 use Rattle.dwc_base.specs.declared.translation.ModuleTranslation.{ModuleTranslation}
 use Rattle.dwc_rules.specs.Carried.{Module, unit_of_simulated}
 use Rattle.dwc_rules.specs.DraftForests.{settled_unit}
@@ -15,7 +16,7 @@ use Rattle.dwc_carried.specs.WidestVersions.{widest_listed_5}
 use Rattle.dwc_rules.specs.Refusals.{Refusal, bad_path}
 use Rattle.dwc_base.specs.Listing.{first_of}
 use Rattle.dwc_output.specs.SimulatedLines as Lines
-use Rattle.dwc_carried.specs.SimulatedUnit.{base_types, simulated_refusals, simulated_root, simulated_unit}
+use Rattle.dwc_carried.specs.SimulatedUnit.{base_types, output_of, simulated_refusals, simulated_root, simulated_unit}
 use Rattle.dwc_dwarf.specs.Trees.{TreeValue}
 use Rattle.dwc_carried.specs.UnitPaths.{is_file_name, next_id_behind, path_name, unit_path}
 use Rattle.dwc_output.specs.NewWidest.{widest_header_5}
@@ -57,19 +58,19 @@ use Rattle.dwc_carry.proofs.SimulatedSteps.{modules-begun}
 
 -- ---- the root and the types
 
-pub unit-typed : (encoding : Encoding) (path : List ℕ) (fs : List (ℕ × Function)) (middle after : List (List ℕ)) (t : RootTexts) (types : TypeTexts) (list : RangeList) (u v : GivenUnit) → Grows middle after
+pub unit-typed : (output : OutputFor) (encoding : Encoding) (path : List ℕ) (fs : List (ℕ × Function)) (middle after : List (List ℕ)) (t : RootTexts) (types : TypeTexts) (list : RangeList) (u v : GivenUnit) → Grows middle after
     → AllZip (IsNumbered middle) (root_names path) (root_texts_of t) → AllZip (IsNumbered after) type_names (type_texts_of types) → AreRanges list.ranges.items (intervals_of fs)
-    → u ≡ root_given encoding.version encoding.address_size (simulated_program encoding.address_size (path_name path) fs) t list → v ≡ with_additions (type_additions types) u → IsTyped encoding path fs after v
-unit-typed encoding path fs middle after t types list u v grows named typed ranges root is =
+    → u ≡ root_given output encoding.version encoding.address_size (simulated_program encoding.address_size (path_name path) fs) t list → v ≡ with_additions (type_additions types) u → IsTyped output encoding path fs after v
+unit-typed output encoding path fs middle after t types list u v grows named typed ranges root is =
     let program : GivenLines = simulated_program encoding.address_size (path_name path) fs in
-    let given : GivenUnit = root_given encoding.version encoding.address_size program t list in
+    let given : GivenUnit = root_given output encoding.version encoding.address_size program t list in
     let whole : v ≡ with_additions (type_additions types) given = is ∙ ap (with_additions (type_additions types)) root in
-    let says : (number : ℕ) → IsSimulated number after (simulated_root path (intervals_of fs) ∷ base_types) (with_additions (type_additions types) given) =
-    λ number. types-simulated number middle after (simulated_root path (intervals_of fs)) given types grows (root-simulated middle path t named number encoding program list (intervals_of fs) ranges.say) typed in
-    subst (IsTyped encoding path fs after) (sym whole) (record {
+    let says : (number : ℕ) → IsSimulated number after (simulated_root output path (intervals_of fs) ∷ base_types) (with_additions (type_additions types) given) =
+    λ number. types-simulated number middle after (simulated_root output path (intervals_of fs)) given types grows (root-simulated middle path t named number output encoding program list (intervals_of fs) ranges.say) typed in
+    subst (IsTyped output encoding path fs after) (sym whole) (record {
       names = t;
       list = list;
-      begins = begins-all encoding program (simulated_root_addition t list) (type_additions types) given (begins-root encoding program t list);
+      begins = begins-all encoding program (simulated_root_addition output t list) (type_additions types) given (begins-root output encoding program t list);
       dense = (says 0).dense;
       some = omega arith;
       simulated = says;
@@ -121,23 +122,23 @@ simulated-lines name size fs u fit is = record {
 -- ---- the whole unit
 
 -- Behind the root and the types all modules are left.
-pub modules-left : (translated : ℕ → Bool) (encoding : Encoding) (path : List ℕ) (number : ℕ) (pointers : List TreeValue) (ms : List Module) (fs : List (ℕ × Function)) (texts : List (List ℕ)) (u : GivenUnit) → fs ≡ simulated_in_files translated ms → IsTyped encoding path fs texts u
+pub modules-left : (translated : ℕ → Bool) (encoding : Encoding) (path : List ℕ) (number : ℕ) (pointers : List TreeValue) (ms : List Module) (fs : List (ℕ × Function)) (texts : List (List ℕ)) (u : GivenUnit) → fs ≡ simulated_in_files translated ms → IsTyped (output_of ms) encoding path fs texts u
     → HasModules translated number pointers texts (simulated_unit translated path number pointers ms) ms u
 modules-left translated encoding path number pointers ms fs texts u is typed =
     modules-begun translated number pointers texts path ms u
-    (subst (λ whole. IsSimulated number texts (simulated_root path whole ∷ base_types) u) (ap intervals_of is ∙ all-intervals translated ms) (typed.simulated number))
+    (subst (λ whole. IsSimulated number texts (simulated_root (output_of ms) path whole ∷ base_types) u) (ap intervals_of is ∙ all-intervals translated ms) (typed.simulated number))
 
 -- The unit is what it is to be, once their entries are added.
 pub simulated_unit-made : (translated : ℕ → Bool) (encoding : Encoding) (path : List ℕ) (ms : List Module) (refs : List DebugInfoRef) (fs : List (ℕ × Function)) (before middle after : List (List ℕ)) (u v : GivenUnit) → fs ≡ simulated_in_files translated ms → All CanWrite fs → Grows before middle → Grows middle after
-    → IsTyped encoding path fs middle u → ((encoding : Encoding) (lines : GivenLines) (root : Addition) → BeginsWith encoding lines root u → BeginsWith encoding lines root v) → ((number : ℕ) → IsSimulated number after (simulated_unit translated path number (map reference_meant refs) ms) v) → IsSimulatedUnit translated encoding path ms refs before after v
+    → IsTyped (output_of ms) encoding path fs middle u → ((encoding : Encoding) (lines : GivenLines) (root : Addition) → BeginsWith encoding lines root u → BeginsWith encoding lines root v) → ((number : ℕ) → IsSimulated number after (simulated_unit translated path number (map reference_meant refs) ms) v) → IsSimulatedUnit translated encoding path ms refs before after v
 simulated_unit-made translated encoding path ms refs fs before middle after u v is fit first second typed begins says =
     let program : GivenLines = simulated_program encoding.address_size (path_name path) fs in
-    let begun = begins encoding program (simulated_root_addition typed.names typed.list) typed.begins in
+    let begun = begins encoding program (simulated_root_addition (output_of ms) typed.names typed.list) typed.begins in
     record {
       grows = grows-twice before middle after first second;
       lines = subst (λ gs. HasSimulatedLines (path_name path) gs v) is (simulated-lines (path_name path) encoding.address_size fs v fit begun.lines_are);
       simulated = says;
-      writable = writable encoding program typed.names typed.list v refl refl begun;
+      writable = writable (output_of ms) encoding program typed.names typed.list v refl refl begun;
     }
 
 -- ---- where it is added
@@ -228,7 +229,7 @@ module _ (translated : ℕ → Bool) (registers : Registers) (c : CompilationVal
 modules-none : (registers : Registers) (c : CompilationValue) → length c.translations ≡ 0 → modules_of registers c ≡ []
 modules-none registers c none = go c.translations none
   where
-    go : (ts : List ModuleTranslation) → length ts ≡ 0 → modules_from c.tunables.dwarf_version 0 ts c.functions (told_from registers (names_of c) 0 0 c.functions c.memory_offsets) ≡ []
+    go : (ts : List ModuleTranslation) → length ts ≡ 0 → modules_from c.tunables.output_for c.tunables.dwarf_version 0 ts c.functions (told_from c.tunables.output_for registers (names_of c) 0 0 c.functions c.memory_offsets) ≡ []
     go [] none = refl
     go (t ∷ ts) none = absurd (omega (arith, none))
 

@@ -10,6 +10,7 @@ use Rattle.std.proofs.lemmas.Option.{slice_get-get_or}
 use Rattle.dwc_base.specs.declared.records.Encoding.{Encoding}
 use Rattle.dwc_base.specs.declared.records.Endian.{Endian}
 use Rattle.dwc_base.specs.declared.records.MapFault.{MapFault}
+use Rattle.dwc_base.specs.declared.records.OutputFor.{OutputFor}
 use Rattle.dwc_base.specs.declared.translation.ModuleTranslation.{ModuleTranslation}
 use Rattle.dwc_native.specs.Functions.{Function, functions_of}
 use Rattle.dwc_rules.specs.Carried.{Module, Compilation}
@@ -73,18 +74,18 @@ count-more (fs ∷ fss) zero less = omega arith
 count-more (fs ∷ fss) (suc i) less = omega (arith, count-more fss i (omega (arith, less)))
 
 -- The transforms so far, and those of the modules that are left, are all; and no map so far is bad.
-pub record TransformsSoFar (ts : List ModuleTranslation) (fss : List (List Compiled)) (i : ℕ) (done : List (List Function)) : Type 0 where
-  pub functions : done ++ functions_from (first_number fss i) (drop i ts) (drop i fss) ≡ functions_from 0 ts fss
+pub record TransformsSoFar (output : OutputFor) (ts : List ModuleTranslation) (fss : List (List Compiled)) (i : ℕ) (done : List (List Function)) : Type 0 where
+  pub functions : done ++ functions_from output (first_number fss i) (drop i ts) (drop i fss) ≡ functions_from output 0 ts fss
   pub bad : bad_map_from i (drop i ts) (drop i fss) ≡ bad_map_from 0 ts fss
 
 -- the same with the next module in front
-record AtNext (ts : List ModuleTranslation) (fss : List (List Compiled)) (i code : ℕ) (done : List (List Function)) : Type 0 where
-  functions : done ++ (functions_of code (first_number fss i) (map address_map_view (get_or fss i [])) ∷ functions_from (first_number fss (i + 1)) (drop (i + 1) ts) (drop (i + 1) fss)) ≡ functions_from 0 ts fss
+record AtNext (output : OutputFor) (ts : List ModuleTranslation) (fss : List (List Compiled)) (i code : ℕ) (done : List (List Function)) : Type 0 where
+  functions : done ++ (functions_of output code (first_number fss i) (map address_map_view (get_or fss i [])) ∷ functions_from output (first_number fss (i + 1)) (drop (i + 1) ts) (drop (i + 1) fss)) ≡ functions_from output 0 ts fss
   bad : option_or (option_map (λ bad. (i, bad)) (first_bad_map code 0 (map address_map_view (get_or fss i [])))) (bad_map_from (i + 1) (drop (i + 1) ts) (drop (i + 1) fss)) ≡ bad_map_from 0 ts fss
 
-with-first : (ts : List ModuleTranslation) (fss : List (List Compiled)) (i : ℕ) (t : ModuleTranslation) (done : List (List Function)) → i < length ts → length fss ≡ length ts
-    → TransformsSoFar ts fss i done → AtNext ts fss i (unwrap_or (option_map (λ x. x.code_section_offset) (slice_get ts i)) 0) done
-with-first ts fss i t done less same h =
+with-first : (output : OutputFor) (ts : List ModuleTranslation) (fss : List (List Compiled)) (i : ℕ) (t : ModuleTranslation) (done : List (List Function)) → i < length ts → length fss ≡ length ts
+    → TransformsSoFar output ts fss i done → AtNext output ts fss i (unwrap_or (option_map (λ x. x.code_section_offset) (slice_get ts i)) 0) done
+with-first output ts fss i t done less same h =
     let a : drop i ts ≡ get_or ts i t ∷ drop (i + 1) ts = drop_more ts i t less in
     let b : drop i fss ≡ get_or fss i [] ∷ drop (i + 1) fss = drop_more fss i [] (omega (arith, less, same)) in
     let n : first_number fss (i + 1) ≡ first_number fss i + length (get_or fss i []) = rw add-one (count-more fss i (omega (arith, less, same))) in
@@ -93,41 +94,41 @@ with-first ts fss i t done less same h =
       bad = rw add-one (rw (a, b, add-one) at h.bad);
     })
 
-at-next : (ts : List ModuleTranslation) (fss : List (List Compiled)) (i : ℕ) (done : List (List Function)) → i < length ts → length fss ≡ length ts
-    → TransformsSoFar ts fss i done → AtNext ts fss i (unwrap_or (option_map (λ x. x.code_section_offset) (slice_get ts i)) 0) done
-at-next [] fss i done less same h = absurd (omega arith)
-at-next (t ∷ ts) fss i done less same h = with-first (t ∷ ts) fss i t done less same h
+at-next : (output : OutputFor) (ts : List ModuleTranslation) (fss : List (List Compiled)) (i : ℕ) (done : List (List Function)) → i < length ts → length fss ≡ length ts
+    → TransformsSoFar output ts fss i done → AtNext output ts fss i (unwrap_or (option_map (λ x. x.code_section_offset) (slice_get ts i)) 0) done
+at-next output [] fss i done less same h = absurd (omega arith)
+at-next output (t ∷ ts) fss i done less same h = with-first output (t ∷ ts) fss i t done less same h
 
 module _ (c : CompilationValue) (same : length c.functions ≡ length c.translations) where
   -- a transform more
-  pub transforms-more : (i : ℕ) (done : List (List Function)) (f : List Function) → i < length c.translations → TransformsSoFar c.translations c.functions i done
-      → (first_bad_map (code_offset_at c i) 0 (map address_map_view (functions_at c i)) ≡ None) × (f ≡ functions_of (code_offset_at c i) (first_number c.functions i) (map address_map_view (functions_at c i)))
-      → TransformsSoFar c.translations c.functions (i + 1) (done ++ f ∷ [])
+  pub transforms-more : (i : ℕ) (done : List (List Function)) (f : List Function) → i < length c.translations → TransformsSoFar c.tunables.output_for c.translations c.functions i done
+      → (first_bad_map (code_offset_at c i) 0 (map address_map_view (functions_at c i)) ≡ None) × (f ≡ functions_of c.tunables.output_for (code_offset_at c i) (first_number c.functions i) (map address_map_view (functions_at c i)))
+      → TransformsSoFar c.tunables.output_for c.translations c.functions (i + 1) (done ++ f ∷ [])
   transforms-more i done f less h made =
-      let next = at-next c.translations c.functions i done less same h in
+      let next = at-next c.tunables.output_for c.translations c.functions i done less same h in
       record {
-        functions = append_assoc done (f ∷ []) _ ∙ ap (λ g. done ++ (g ∷ functions_from (first_number c.functions (i + 1)) (drop (i + 1) c.translations) (drop (i + 1) c.functions))) made.1 ∙ next.functions;
+        functions = append_assoc done (f ∷ []) _ ∙ ap (λ g. done ++ (g ∷ functions_from c.tunables.output_for (first_number c.functions (i + 1)) (drop (i + 1) c.translations) (drop (i + 1) c.functions))) made.1 ∙ next.functions;
         bad = sym (ap (λ o. option_or (option_map (λ (bad : ℕ × MapFault). (i, bad)) o) (bad_map_from (i + 1) (drop (i + 1) c.translations) (drop (i + 1) c.functions))) made.0) ∙ next.bad;
       }
 
   -- a transform that is refused
-  pub transforms-refused : (i : ℕ) (done : List (List Function)) (e : AddrError) → i < length c.translations → TransformsSoFar c.translations c.functions i done
-      → Transforms (λ t. t) i (code_offset_at c i) (first_number c.functions i) (map address_map_view (functions_at c i)) (Err e) → Refuses (maps_refusal c) (of_maps e)
+  pub transforms-refused : (i : ℕ) (done : List (List Function)) (e : AddrError) → i < length c.translations → TransformsSoFar c.tunables.output_for c.translations c.functions i done
+      → Transforms (λ t. t) i c.tunables.output_for (code_offset_at c i) (first_number c.functions i) (map address_map_view (functions_at c i)) (Err e) → Refuses (maps_refusal c) (of_maps e)
   transforms-refused i done (addr.BadAddressMap m func why) less h refused =
-      let next = at-next c.translations c.functions i done less same h in
+      let next = at-next c.tunables.output_for c.translations c.functions i done less same h in
       ap map_refusal (sym next.bad ∙ ap (λ o. option_or (option_map (λ (bad : ℕ × MapFault). (i, bad)) o) (bad_map_from (i + 1) (drop (i + 1) c.translations) (drop (i + 1) c.functions))) refused.1 ∙ ap (λ n. Some (n, (func, why))) (sym refused.0))
   transforms-refused i done addr.OutOfMemory less h refused = tt
 
   -- behind the last one
-  pub transforms-done : (i : ℕ) (done : List (List Function)) → length c.translations ≤ i → TransformsSoFar c.translations c.functions i done → (maps_refusal c ≡ None) × (done ≡ functions_from 0 c.translations c.functions)
+  pub transforms-done : (i : ℕ) (done : List (List Function)) → length c.translations ≤ i → TransformsSoFar c.tunables.output_for c.translations c.functions i done → (maps_refusal c ≡ None) × (done ≡ functions_from c.tunables.output_for 0 c.translations c.functions)
   transforms-done i done past h =
       let a = drop_all i c.translations past in
       let bad = rw a at h.bad in
       let functions = rw a at h.functions in
       (ap map_refusal (sym bad), sym (append-nil done) ∙ functions)
 
-pub transforms-begin : (ts : List ModuleTranslation) (fss : List (List Compiled)) → TransformsSoFar ts fss 0 []
-transforms-begin ts fss = record { functions = refl; bad = refl }
+pub transforms-begin : (output : OutputFor) (ts : List ModuleTranslation) (fss : List (List Compiled)) → TransformsSoFar output ts fss 0 []
+transforms-begin output ts fss = record { functions = refl; bad = refl }
 
 -- ---- with all transforms
 
@@ -135,30 +136,31 @@ neither : {A : Type 0} (o p : Option A) → option_or o p ≡ None → (o ≡ No
 neither None p h = (refl, h)
 neither (Some x) p h = absurd (cc)
 
-kept-all : (number place : ℕ) (ts : List ModuleTranslation) (fss : List (List Compiled)) → bad_map_from place ts fss ≡ None → All AreKept (functions_from number ts fss)
-kept-all number place [] fss good = All-nil AreKept
-kept-all number place (t ∷ ts) [] good = All-nil AreKept
-kept-all number place (t ∷ ts) (fs ∷ fss) good =
+kept-all : (output : OutputFor) (number place : ℕ) (ts : List ModuleTranslation) (fss : List (List Compiled)) → bad_map_from place ts fss ≡ None → All AreKept (functions_from output number ts fss)
+kept-all output number place [] fss good = All-nil AreKept
+kept-all output number place (t ∷ ts) [] good = All-nil AreKept
+kept-all output number place (t ∷ ts) (fs ∷ fss) good =
     let two = neither (option_map (λ (bad : ℕ × MapFault). (place, bad)) (first_bad_map t.code_section_offset 0 (map address_map_view fs))) (bad_map_from (suc place) ts fss) good in
     All-cons AreKept _ _ (record {
+      output = output;
       code_offset = t.code_section_offset;
       first_number = number;
       maps = map address_map_view fs;
       good = unmapped (λ (bad : ℕ × MapFault). (place, bad)) (first_bad_map t.code_section_offset 0 (map address_map_view fs)) two.0;
       kept = refl;
-    }) (kept-all (number + length fs) (suc place) ts fss two.1)
+    }) (kept-all output (number + length fs) (suc place) ts fss two.1)
 
 -- no map is bad where none is refused
 pub maps-good : (c : CompilationValue) → maps_refusal c ≡ None → bad_map c ≡ None
 maps-good c good = unmapped _ (bad_map c) good
 
 -- the functions of all transforms are kept of good maps
-pub all-kept : (c : CompilationValue) → maps_refusal c ≡ None → All AreKept (functions_from 0 c.translations c.functions)
-all-kept c good = kept-all 0 0 c.translations c.functions (unmapped _ (bad_map c) good)
+pub all-kept : (c : CompilationValue) → maps_refusal c ≡ None → All AreKept (functions_from c.tunables.output_for 0 c.translations c.functions)
+all-kept c good = kept-all c.tunables.output_for 0 0 c.translations c.functions (unmapped _ (bad_map c) good)
 
 -- no function is too long where the check of lengths answers nothing
-pub lengths-short : (c : CompilationValue) → Ok tt ≡ lengths_checked (functions_from 0 c.translations c.functions) → have_long (functions_from 0 c.translations c.functions) ≡ false
-lengths-short c h = checked-short (functions_from 0 c.translations c.functions) h
+pub lengths-short : (c : CompilationValue) → Ok tt ≡ lengths_checked (functions_from c.tunables.output_for 0 c.translations c.functions) → have_long (functions_from c.tunables.output_for 0 c.translations c.functions) ≡ false
+lengths-short c h = checked-short (functions_from c.tunables.output_for 0 c.translations c.functions) h
 
 -- Units that are made of its carried units are what it is transformed to.
 transformed-of : (c : Compilation) (texts : List (List ℕ)) (us : List GivenUnit) → first_refusal c ≡ None → AreMadeOf (place_at us) (encoding_of c) texts 0 (wanted_units c) (trees_made c) us → All (λ m. (units m.sections).fault ≡ None) c.modules → IsTransformed c texts us
@@ -209,7 +211,7 @@ module _ (registers : Registers) (c : CompilationValue) (counted : IsCounted c.t
   modules = modules_of registers c
 
   abbrev functions : List (List Function)
-  functions = functions_from 0 c.translations c.functions
+  functions = functions_from c.tunables.output_for 0 c.translations c.functions
 
   -- what is refused of the modules as they are read, in order
   abbrev refusals_in : List Module → Option InputRefusal
@@ -231,8 +233,8 @@ module _ (registers : Registers) (c : CompilationValue) (counted : IsCounted c.t
   refers-each refs refers =
       refers-length 0 modules refs refers
       ∙ sym (length-map modules (λ (m : Module). m.functions))
-      ∙ ap length (functions-are c.tunables.dwarf_version registers (names_of c) c.translations c.functions c.memory_offsets counted)
-      ∙ functions-length 0 c.translations c.functions (counted-length c.translations c.functions c.memory_offsets counted)
+      ∙ ap length (functions-are c.tunables.output_for c.tunables.dwarf_version registers (names_of c) c.translations c.functions c.memory_offsets counted)
+      ∙ functions-length c.tunables.output_for 0 c.translations c.functions (counted-length c.translations c.functions c.memory_offsets counted)
 
   each-refused : (ms : List Module) → flat_map function_refusals (all_functions ms) ≡ flat_map (λ (m : Module). function_refusals m.functions) ms
   each-refused [] = refl
@@ -240,7 +242,7 @@ module _ (registers : Registers) (c : CompilationValue) (counted : IsCounted c.t
 
   -- the functions of the modules are refused as those of the transforms
   functions-refused : flat_map function_refusals functions ≡ flat_map (λ (m : Module). function_refusals m.functions) modules
-  functions-refused = ap (flat_map function_refusals) (sym (functions-are c.tunables.dwarf_version registers (names_of c) c.translations c.functions c.memory_offsets counted)) ∙ each-refused modules
+  functions-refused = ap (flat_map function_refusals) (sym (functions-are c.tunables.output_for c.tunables.dwarf_version registers (names_of c) c.translations c.functions c.memory_offsets counted)) ∙ each-refused modules
 
   -- what is refused behind the lengths of functions is refused of the input, whose maps are good and whose functions short
   behind-lengths : maps_refusal c ≡ None → have_long functions ≡ false → option_map in_reading (first_of (flat_map module_refusals modules ++ (simulated_refused ++ []))) ≡ input_refusal

@@ -5,6 +5,7 @@ use Rattle.std.specs.Option.{option_or}
 use Rattle.dwc_base.specs.declared.records.Encoding.{Encoding}
 use Rattle.dwc_base.specs.declared.records.Endian.{Endian}
 use Rattle.dwc_base.specs.declared.records.MapFault.{MapFault}
+use Rattle.dwc_base.specs.declared.records.OutputFor.{OutputFor}
 use Rattle.dwc_base.specs.declared.translation.ModuleTranslation.{ModuleTranslation}
 use Rattle.dwc_base.specs.Translations.{translation_sections}
 use Rattle.dwc_base.specs.TranslationNames.{told_file}
@@ -24,30 +25,31 @@ use Rattle.dwc_addr.specs.Transforms.{first_bad_map}
 use Rattle.dwc_source.specs.CompiledModules.{told_module}
 use Rattle.dwc_carry.specs.Refusals.{InputRefusal, bad_address_map, in_reading}
 
--- what is told of the modules from a place on beside their sections and address maps, whose functions are numbered over all of them from
--- a number on: where their functions' values lie, and where their memories are found, for a target that numbers registers, and names
-abbrev pub told_from : Registers → LinkageNames → ℕ → ℕ → List (List Compiled) → List ModuleMemoryOffset → List ToldModule
-told_from registers names place number [] offsets = []
-told_from registers names place number (fs ∷ fss) [] = []
-told_from registers names place number (fs ∷ fss) (offset ∷ offsets) = told_module place number fs offset registers names ∷ told_from registers names (suc place) (number + length fs) fss offsets
+-- what is told, for some output, of the modules from a place on beside their sections and address maps, whose functions are numbered over
+-- all of them from a number on: where their functions' values lie, and where their memories are found, for a target that numbers registers,
+-- and names
+abbrev pub told_from : OutputFor → Registers → LinkageNames → ℕ → ℕ → List (List Compiled) → List ModuleMemoryOffset → List ToldModule
+told_from output registers names place number [] offsets = []
+told_from output registers names place number (fs ∷ fss) [] = []
+told_from output registers names place number (fs ∷ fss) (offset ∷ offsets) = told_module output place number fs offset registers names ∷ told_from output registers names (suc place) (number + length fs) fss offsets
 
--- a module of a translation and of the functions compiled from it, of which the first has a number, with what is told of it, that
--- is carried to a version
-abbrev pub module_view : ℕ → ℕ → ModuleTranslation → List Compiled → ToldModule → Module
-module_view version number t fs told = record { sections = translation_sections t; functions = functions_of t.code_section_offset number (map address_map_view fs); told = told; file = told_file t; compressed = t.compressed; version = version }
+-- a module of a translation and of the functions compiled from it, of which the first has a number, with what is told of it, that is
+-- carried to an output of a version
+abbrev pub module_view : OutputFor → ℕ → ℕ → ModuleTranslation → List Compiled → ToldModule → Module
+module_view output version number t fs told = record { sections = translation_sections t; functions = functions_of output t.code_section_offset number (map address_map_view fs); told = told; file = told_file t; compressed = t.compressed; version = version }
 
--- modules in order, carried to a version, whose functions are numbered over all of them from a number on
-abbrev pub modules_from : ℕ → ℕ → List ModuleTranslation → List (List Compiled) → List ToldModule → List Module
-modules_from version number [] fss told = []
-modules_from version number (t ∷ ts) [] told = []
-modules_from version number (t ∷ ts) (fs ∷ fss) [] = []
-modules_from version number (t ∷ ts) (fs ∷ fss) (m ∷ told) = module_view version number t fs m ∷ modules_from version (number + length fs) ts fss told
+-- modules in order, carried to an output of a version, whose functions are numbered over all of them from a number on
+abbrev pub modules_from : OutputFor → ℕ → ℕ → List ModuleTranslation → List (List Compiled) → List ToldModule → List Module
+modules_from output version number [] fss told = []
+modules_from output version number (t ∷ ts) [] told = []
+modules_from output version number (t ∷ ts) (fs ∷ fss) [] = []
+modules_from output version number (t ∷ ts) (fs ∷ fss) (m ∷ told) = module_view output version number t fs m ∷ modules_from output version (number + length fs) ts fss told
 
--- the functions of modules, which are numbered over all of them from a number on
-abbrev pub functions_from : ℕ → List ModuleTranslation → List (List Compiled) → List (List Function)
-functions_from number [] fss = []
-functions_from number (t ∷ ts) [] = []
-functions_from number (t ∷ ts) (fs ∷ fss) = functions_of t.code_section_offset number (map address_map_view fs) ∷ functions_from (number + length fs) ts fss
+-- the functions of modules, for some output, which are numbered over all of them from a number on
+abbrev pub functions_from : OutputFor → ℕ → List ModuleTranslation → List (List Compiled) → List (List Function)
+functions_from output number [] fss = []
+functions_from output number (t ∷ ts) [] = []
+functions_from output number (t ∷ ts) (fs ∷ fss) = functions_of output t.code_section_offset number (map address_map_view fs) ∷ functions_from output (number + length fs) ts fss
 
 -- the names of functions of the run time, of a compilation
 abbrev pub names_of : CompilationValue → LinkageNames
@@ -55,7 +57,7 @@ names_of c = record { set_memory = c.set_memory; resolve_memory = c.resolve_memo
 
 -- the modules of a compilation
 abbrev pub modules_of : Registers → CompilationValue → List Module
-modules_of registers c = modules_from c.tunables.dwarf_version 0 c.translations c.functions (told_from registers (names_of c) 0 0 c.functions c.memory_offsets)
+modules_of registers c = modules_from c.tunables.output_for c.tunables.dwarf_version 0 c.translations c.functions (told_from c.tunables.output_for registers (names_of c) 0 0 c.functions c.memory_offsets)
 
 -- A compilation behind the path of its simulated unit: the number of the next generated name has risen where one was made.
 abbrev pub counted_behind : Registers → CompilationValue → CompilationValue

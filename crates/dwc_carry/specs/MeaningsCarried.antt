@@ -95,7 +95,7 @@ UnitMeans drafted synthetic_unit tree = Unit {0}
 UnitMeans drafted (unit_of_simulated name translated ms) tree = Unit {0}
 UnitMeans drafted (carried_unit u) tree =
     AllZip
-    (λ d out. (e : Entry) → Contains u.unit.entries e → is_made_of e.offset itself d ≡ true → is_wrapped (record { unit = u.unit.header.offset; entry = e }) ≡ false → EntryMeans (expressions_of u.module_of u.unit) (record { unit = u.unit.header.offset; entry = e }) out)
+    (λ d out. (e : Entry) → Contains u.unit.entries e → is_made_of e.offset itself d ≡ true → is_wrapped u.module_of.told.output (record { unit = u.unit.header.offset; entry = e }) ≡ false → EntryMeans (expressions_of u.module_of u.unit) (record { unit = u.unit.header.offset; entry = e }) out)
     (drafted u) tree
 
 -- The units of an output, each of which is to be one, mean what the input does.

@@ -1,8 +1,10 @@
 -- The entries of the unit for functions without debugging information, as they are added: their texts by numbers, and the places of their
 -- parents.
-use Rattle.std.specs.Prelude.{ℕ, pos, List, [], ◌∷◌, Some, codes}
+use Rattle.std.specs.Prelude.{ℕ, pos, List, [], ◌∷◌, ◌++◌, Some, codes}
 use Rattle.dwc_base.specs.declared.constants.TheConstants.{DW_AT_byte_size, DW_AT_comp_dir, DW_AT_decl_file, DW_AT_decl_line, DW_AT_encoding, DW_AT_high_pc, DW_AT_language, DW_AT_location, DW_AT_low_pc, DW_AT_name, DW_AT_producer, DW_AT_ranges, DW_AT_stmt_list, DW_AT_type, DW_ATE_float, DW_ATE_signed, DW_FORM_data1, DW_FORM_data2, DW_FORM_udata, DW_LANG_C11, DW_TAG_base_type, DW_TAG_compile_unit, DW_TAG_subprogram, DW_TAG_variable}
-use Rattle.dwc_base.specs.declared.records.Address.TheVariants.{Symbol}
+use Rattle.dwc_base.specs.declared.records.Address.TheVariants.{Constant, Symbol}
+use Rattle.dwc_base.specs.declared.records.OutputFor.{OutputFor}
+use Rattle.dwc_base.specs.declared.records.OutputFor.TheVariants.{Default, Debugger}
 use Rattle.dwc_carried.specs.UnitPaths.{path_directory, path_name}
 use Rattle.dwc_clone.specs.GivenAttributes.{Attribute}
 use Rattle.dwc_unit.specs.declared.attributes.AttributeValue.TheVariants as write
@@ -11,7 +13,7 @@ use Rattle.dwc_unit.specs.LocationLists.{LocationList}
 use Rattle.dwc_unit.specs.declared.lists.RangeList.{RangeList}
 use Rattle.dwc_unit.specs.declared.strings.StringId.{StringId}
 use Rattle.dwc_unit.specs.GivenLines.{GivenLines}
-use Rattle.dwc_unit.specs.GivenUnits.{Addition, GivenUnit}
+use Rattle.dwc_unit.specs.GivenUnits.{Addition, GivenUnit, with_value}
 use Rattle.dwc_carry.specs.declared.simulated_entries.TypeTexts.{TypeTexts}
 use Rattle.dwc_carry.specs.declared.simulated_root.RootTexts.{RootTexts}
 use Rattle.dwc_carry.specs.SyntheticAdditions.{below, numbered, texted, typed}
@@ -30,19 +32,35 @@ root_names path = codes "wasmtime" ∷ path_name path ∷ path_directory path �
 abbrev pub root_texts_of : RootTexts → List StringId
 root_texts_of t = t.producer ∷ t.name ∷ t.directory ∷ []
 
-abbrev pub simulated_root_addition : RootTexts → RangeList → Addition
-simulated_root_addition t list =
-    below 0 DW_TAG_compile_unit (
+-- its attributes but for those that say where its code is
+abbrev pub name_attributes : RootTexts → List Attribute
+name_attributes t =
     texted DW_AT_producer t.producer
     ∷ numbered DW_AT_language DW_FORM_data2 DW_LANG_C11
     ∷ texted DW_AT_name t.name
     ∷ record { name = DW_AT_stmt_list; value = write.LineProgramRef }
-    ∷ texted DW_AT_comp_dir t.directory
-    ∷ record { name = DW_AT_ranges; value = write.RangeListRef list } ∷ [])
+    ∷ texted DW_AT_comp_dir t.directory ∷ []
+
+-- what its list counts from, for a debugger
+abbrev pub base_attributes : OutputFor → List Attribute
+base_attributes Default = []
+base_attributes Debugger = record { name = DW_AT_low_pc; value = write.Address (Constant 0) } ∷ []
+
+abbrev pub simulated_root_addition : OutputFor → RootTexts → RangeList → Addition
+simulated_root_addition output t list = below 0 DW_TAG_compile_unit (name_attributes t ++ base_attributes output ++ record { name = DW_AT_ranges; value = write.RangeListRef list } ∷ [])
 
 -- the unit of a version with its root alone
-abbrev pub root_given : ℕ → ℕ → GivenLines → RootTexts → RangeList → GivenUnit
-root_given version size lines t list = record { version = version; address_size = size; lines = lines; places = Some 0 ∷ []; additions = simulated_root_addition t list ∷ [] }
+abbrev pub root_given : OutputFor → ℕ → ℕ → GivenLines → RootTexts → RangeList → GivenUnit
+root_given output version size lines t list = record { version = version; address_size = size; lines = lines; places = Some 0 ∷ []; additions = simulated_root_addition output t list ∷ [] }
+
+-- the same, before it is said where its code is
+abbrev pub root_named : ℕ → ℕ → GivenLines → RootTexts → GivenUnit
+root_named version size lines t = record { version = version; address_size = size; lines = lines; places = Some 0 ∷ []; additions = below 0 DW_TAG_compile_unit (name_attributes t) ∷ [] }
+
+-- a unit whose root was given the list of its code, for some output
+abbrev pub with_code : OutputFor → RangeList → GivenUnit → GivenUnit
+with_code Default list u = with_value 0 DW_AT_ranges (write.RangeListRef list) u
+with_code Debugger list u = with_value 0 DW_AT_ranges (write.RangeListRef list) (with_value 0 DW_AT_low_pc (write.Address (Constant 0)) u)
 
 -- ---- types
 

@@ -2,6 +2,7 @@
 use Rattle.std.specs.Prelude.{◌≡◌, ℕ, ◌+◌, ◌%◌, ◌^◌, ◌<◌, Bool, if◌then◌else◌, List, [], ◌∷◌, ◌++◌, map, length, Option, None, option_to_list, Result}
 use Rattle.std.specs.BTreeSet.{BTreeSet}
 use Rattle.dwc_base.specs.declared.records.Encoding.{Encoding}
+use Rattle.dwc_base.specs.declared.records.OutputFor.{OutputFor}
 use Rattle.dwc_rules.specs.Carried.{Module}
 use Rattle.dwc_native.specs.Functions.{Function}
 use Rattle.dwc_base.specs.Listing.{first_of}
@@ -48,15 +49,15 @@ AreTranslated ms translated = (n : ℕ) → is_noted translated n ≡ is_begun m
 
 -- ---- the unit, before it is added
 
--- A unit has the line program of some simulated functions and begins with the root of a path, whose range list has their code, and the
--- types of numbers.
-pub record IsTyped (encoding : Encoding) (path : List ℕ) (fs : List (ℕ × Function)) (texts : List (List ℕ)) (u : GivenUnit) : Type 0 where
+-- A unit has the line program of some simulated functions and begins with the root of a path, whose range list has their code, for some
+-- output, and the types of numbers.
+pub record IsTyped (output : OutputFor) (encoding : Encoding) (path : List ℕ) (fs : List (ℕ × Function)) (texts : List (List ℕ)) (u : GivenUnit) : Type 0 where
   pub names : RootTexts
   pub list : RangeList
-  pub begins : BeginsWith encoding (simulated_program encoding.address_size (path_name path) fs) (simulated_root_addition names list) u
+  pub begins : BeginsWith encoding (simulated_program encoding.address_size (path_name path) fs) (simulated_root_addition output names list) u
   pub dense : IsDense u
   pub some : 0 < length u.additions
-  pub simulated : (number : ℕ) → IsSimulated number texts (simulated_root path (intervals_of fs) ∷ base_types) u
+  pub simulated : (number : ℕ) → IsSimulated number texts (simulated_root output path (intervals_of fs) ∷ base_types) u
 
 -- The entries of modules are added, whose units are told before, or the first refusal of their variables is answered.
 abbrev pub GivesEntries : (ℕ → Bool) → ℕ → List Draft → List Module → List (List ℕ) → GivenUnit → Result (Unit {0}) DebugError → Type 0

@@ -11,6 +11,7 @@ use Rattle.dwc_carried.specs.DefinedFunctions.{DefinedFunction, types_at}
 use Rattle.dwc_rules.specs.Drafts.{Draft}
 use Rattle.dwc_rules.specs.EntryRules.{of_build}
 use Rattle.dwc_rules.specs.Refusals.{Refusal}
+use Rattle.dwc_rules.specs.Scopes.{source_end}
 use Rattle.dwc_base.specs.Listing.{first_of}
 use Rattle.dwc_carried.specs.SimulatedUnit.{function_index, has_entry, label_locations, surroundings_of}
 use Rattle.dwc_base.specs.ToldFiles.{is_parameter}
@@ -42,7 +43,7 @@ pub record IsSimulatedFunction (registers : Registers) (m : Module) (d : Defined
   pub index : function_index m d ≡ f.index
   pub locals : f.locals.now ≡ types_at m d
   pub surrounded : surroundings l.transform.now (Some f.frame) registers ≡ surroundings_of m d.function
-  pub scope : f.scope ≡ (d.function.start, d.function.end)
+  pub scope : f.scope ≡ (d.function.start, source_end d.function)
   pub place : l.compiled.now.place ≡ m.told.place
 
 -- ---- refusals

@@ -26,7 +26,7 @@ use Rattle.dwc_carry.specs.MadeUnits.{AreMadeOf}
 
 -- the transforms of all modules, or the refusal of the first bad map
 abbrev pub GivesTransforms : CompilationValue → Result (Vec AddressTransform Global) DebugError → Type 0
-GivesTransforms c result = GivesOr (λ (ts : Vec AddressTransform Global). ts.items ≡ functions_from 0 c.translations c.functions) (maps_refusal c) result
+GivesTransforms c result = GivesOr (λ (ts : Vec AddressTransform Global). ts.items ≡ functions_from c.tunables.output_for 0 c.translations c.functions) (maps_refusal c) result
 
 -- whether a function of some modules is too long
 abbrev pub have_long : List (List Function) → Bool

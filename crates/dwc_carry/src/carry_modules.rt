@@ -100,7 +100,7 @@ pub(crate) fn carry_modules(
     requires version { (form.encoding.version ≡ 4) ⊎ (form.encoding.version ≡ 5) }
     requires size { (form.encoding.address_size ≡ 4) ⊎ (form.encoding.address_size ≡ 8) }
     requires asked { form.encoding.version ≡ compilation.now.tunables.dwarf_version }
-    requires transforms { transforms.now ≡ functions_from 0 compilation.now.translations compilation.now.functions }
+    requires transforms { transforms.now ≡ functions_from compilation.now.tunables.output_for 0 compilation.now.translations compilation.now.functions }
     requires functions { All AreKept transforms.now }
     requires addends { All HaveAddends transforms.now }
     ensures { GivesModules form.encoding form.big_endian (modules_of (dwarf_registers isa.now) compilation.now) dwarf.old dwarf.new result }

@@ -15,7 +15,7 @@ use dwc_addr::Compilation;
 use dwc_base::StaticModuleIndex;
 use dwc_source::CompiledModule;
 
-/// What the code generator tells of a module beside its address maps: its functions, the number of the first of them, where its
+/// What is told of a module beside its address maps: whom the output is for, its functions, the number of the first of them, where its
 /// memory is found, and the names of functions of the run time.
 pub(crate) fn compiled_module<'a>(
     compilation: &Compilation<'a>,
@@ -23,13 +23,14 @@ pub(crate) fn compiled_module<'a>(
 ) -> CompiledModule<'a>
     requires inside { «module».0 < length compilation.now.translations }
     requires counted { length compilation.now.functions ≡ length compilation.now.translations }
-    ensures told { (registers : Registers) → slice_get (told_from registers (names_of compilation.now) 0 0 compilation.now.functions compilation.now.memory_offsets) «module».0 ≡ Some (told_by registers result) }
+    ensures told { (registers : Registers) → slice_get (told_from compilation.now.tunables.output_for registers (names_of compilation.now) 0 0 compilation.now.functions compilation.now.memory_offsets) «module».0 ≡ Some (told_by registers result) }
     ensures set_memory { result.names.set_memory.now ≡ compilation.now.set_memory }
     ensures resolve_memory { IsText result.names.resolve_memory.now }
     ensures memory { memory_view result.memory ≡ memory_at compilation.now «module».0 }
-    ensures frames { (code_offset : ℕ) → HasFrames result (functions_of code_offset (first_number compilation.now.functions «module».0) (map address_map_view (functions_at compilation.now «module».0))) }
+    ensures frames { (code_offset : ℕ) → HasFrames result (functions_of compilation.now.tunables.output_for code_offset (first_number compilation.now.functions «module».0) (map address_map_view (functions_at compilation.now «module».0))) }
 {
     CompiledModule {
+        output_for: compilation.tunables().output_for,
         place: module.0,
         functions: compilation.functions_of(module),
         first_number: compilation.first_number(module),

@@ -50,8 +50,8 @@ impl CarriedDwarf {
     }
 }
 
-/// What the DWARF of a compilation carries over to, for a target, in the version of DWARF that its tunables ask for, 4 or 5, with the call
-/// frames of its functions where the target has a common information entry. The compilation is left as it is but for its counter of names, which rises where the path of the unit for functions
+/// What the DWARF of a compilation carries over to, for a target, in the version of DWARF that its tunables ask for, 4 or 5, and for whom they
+/// ask, with the call frames of its functions where the target has a common information entry. The compilation is left as it is but for its counter of names, which rises where the path of the unit for functions
 /// without debugging information is made of it: not where an address map, a length or a module is refused. The work is linear in what is
 /// read and made.
 ///
@@ -82,7 +82,7 @@ pub fn carry_dwarf(
 }
 
 /// The sections of DWARF that those of a compilation carry over to, for a target, in the version of DWARF that its tunables ask for, 4 or 5,
-/// with the call frames of its functions behind them where the target has a common information entry: [`carry_dwarf`], and what it carries written. The compilation is left as it is but for its
+/// and for whom they ask, with the call frames of its functions behind them where the target has a common information entry: [`carry_dwarf`], and what it carries written. The compilation is left as it is but for its
 /// counter of names, which rises where the path of the unit for functions without debugging information is made of it: not where an address
 /// map, a length or a module is refused. The work is linear in what is read and written.
 ///

@@ -77,7 +77,7 @@ pub(crate) fn simulated_functions<'t, 'a>(
     transforms: &'t [AddressTransform<'a>],
     translated: &BTreeSet<usize>,
 ) -> Result<Vec<(u64, &'t FunctionMap<'a>)>, AllocError>
-    requires transforms { transforms.now ≡ functions_from 0 compilation.now.translations compilation.now.functions }
+    requires transforms { transforms.now ≡ functions_from compilation.now.tunables.output_for 0 compilation.now.translations compilation.now.functions }
     requires maps { bad_map compilation.now ≡ None }
     requires addends { All HaveAddends transforms.now }
     ensures counted { IsCounted compilation.now.translations compilation.now.functions compilation.now.memory_offsets }

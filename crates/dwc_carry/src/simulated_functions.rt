@@ -35,6 +35,7 @@ use crate::simulated_texts::add_text;
 use crate::simulated_variables::{SimulatedFunction, add_variables};
 use dwc_addr::{AddressTransform, FunctionMap};
 use dwc_base::ModuleTranslation;
+use dwc_extents::source_end;
 use dwc_isa::TargetIsa;
 use dwc_source::CompiledModule;
 use dwc_unit::{DebugInfoRef, StringTable, Unit, UnitEntryId};
@@ -127,7 +128,7 @@ fn add_function(
             let locals = FunctionLocals::new(alloc, module.translation, place)?;
             let simulated = SimulatedFunction {
                 index,
-                scope: (function.wasm_start, function.wasm_end),
+                scope: (function.wasm_start, source_end(function)),
                 locals: &locals,
                 frame,
                 entry,

@@ -77,7 +77,7 @@ pub(crate) fn add_modules(
     unit: &mut Unit,
     strings: &mut StringTable,
 ) -> Result<(), DebugError>
-    requires transforms { transforms.now ≡ functions_from 0 compilation.now.translations compilation.now.functions }
+    requires transforms { transforms.now ≡ functions_from compilation.now.tunables.output_for 0 compilation.now.translations compilation.now.functions }
     requires maps { bad_map compilation.now ≡ None }
     requires low { All (All HasLowEnd) compilation.now.functions }
     requires functions { All AreKept transforms.now }

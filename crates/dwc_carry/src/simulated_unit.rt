@@ -25,7 +25,7 @@ use crate::simulated_root::root_unit;
 use crate::simulated_texts::{root_texts, type_texts};
 use crate::unit_path::{UnitPath, is_file_name, path_name, unit_path};
 use dwc_addr::{AddressTransform, Compilation, FunctionMap};
-use dwc_base::{Encoding, ModuleTranslation};
+use dwc_base::{Encoding, ModuleTranslation, OutputFor};
 use dwc_image::simulated_lines;
 use dwc_isa::TargetIsa;
 use dwc_section::WriteError;
@@ -36,6 +36,7 @@ use std::collections::BTreeSet;
 // The unit of a path with its root and the types of numbers, for some simulated functions.
 fn typed_unit(
     alloc: Global,
+    output_for: OutputFor,
     encoding: Encoding,
     path: &[u8],
     functions: &[(u64, &FunctionMap<'_>)],
@@ -47,14 +48,14 @@ fn typed_unit(
     requires name { is_file_name (path_name path.now) ≡ true }
     requires functions { All CanWrite (map simulated_view functions.now) }
     ensures grows { Grows strings.old strings.new }
-    ensures typed { IfOk result (IsTyped encoding path.now (map simulated_view functions.now) strings.new) }
+    ensures typed { IfOk result (IsTyped output_for encoding path.now (map simulated_view functions.now) strings.new) }
     ensures memory { IsOkUnless result OutOfMemory }
 {
     let ranges = whole_ranges(alloc, functions)?;
     let lines = simulated_lines(alloc, encoding, path_name(path), functions)?;
     let texts = root_texts(strings, path)?;
     let types = type_texts(strings)?;
-    let mut unit = root_unit(alloc, encoding, lines, &texts, ranges)?;
+    let mut unit = root_unit(alloc, output_for, encoding, lines, &texts, ranges)?;
     add_types(&mut unit, &types)?;
     Ok(unit)
 }
@@ -73,18 +74,20 @@ fn simulated_unit(
 ) -> Result<Unit, DebugError>
     requires version { (encoding.version ≡ 4) ⊎ (encoding.version ≡ 5) }
     requires size { (encoding.address_size ≡ 4) ⊎ (encoding.address_size ≡ 8) }
-    requires transforms { transforms.now ≡ functions_from 0 compilation.now.translations compilation.now.functions }
+    requires transforms { transforms.now ≡ functions_from compilation.now.tunables.output_for 0 compilation.now.translations compilation.now.functions }
     requires maps { bad_map compilation.now ≡ None }
     requires functions { All AreKept transforms.now }
     requires addends { All HaveAddends transforms.now }
     requires contexts { length vmctx_ptrs.now ≡ length compilation.now.translations }
+    requires some { 0 < length compilation.now.translations }
     requires path { IsText path.now }
     requires name { is_file_name (path_name path.now) ≡ true }
     ensures grows { Grows strings.old strings.new }
     ensures unit { GivesUnit (is_noted translated.now) encoding path.now (modules_of (dwarf_registers isa.now) compilation.now) vmctx_ptrs.now strings.old strings.new result }
 {
     let functions = simulated_functions(alloc, compilation, transforms, translated)?;
-    let mut unit = typed_unit(alloc, encoding, path, &functions, strings)?;
+    let output_for = compilation.tunables().output_for;
+    let mut unit = typed_unit(alloc, output_for, encoding, path, &functions, strings)?;
     add_modules(
         alloc,
         isa,
@@ -156,7 +159,7 @@ pub fn generate_simulated_dwarf(
 ) -> Result<(), DebugError>
     requires version { (out_encoding.version ≡ 4) ⊎ (out_encoding.version ≡ 5) }
     requires size { (out_encoding.address_size ≡ 4) ⊎ (out_encoding.address_size ≡ 8) }
-    requires transforms { addr_tr.now ≡ functions_from 0 compilation.old.translations compilation.old.functions }
+    requires transforms { addr_tr.now ≡ functions_from compilation.old.tunables.output_for 0 compilation.old.translations compilation.old.functions }
     requires maps { bad_map compilation.old ≡ None }
     requires functions { All AreKept addr_tr.now }
     requires addends { All HaveAddends addr_tr.now }

@@ -44,7 +44,7 @@ use std::alloc::Global;
 pub(crate) struct SimulatedFunction<'l, 'a> {
     /// Its number among all of its module, of which the imported ones come first.
     pub index: u64,
-    /// Where it begins and ends in the wasm file.
+    /// The source range of its code in the wasm file.
     pub scope: (u64, u64),
     /// The types of its locals.
     pub locals: &'l FunctionLocals<'a>,

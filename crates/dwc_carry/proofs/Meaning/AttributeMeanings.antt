@@ -17,7 +17,7 @@ use Rattle.dwc_dwarf.specs.Lists.{ListRefusal, of_place as of_list_place}
 use Rattle.dwc_rules.specs.Kept.{Placed}
 use Rattle.dwc_rules.specs.Drafts.{itself, made_of, DraftValue, done, goes_to}
 use Rattle.dwc_rules.specs.Refusals.{Refusal}
-use Rattle.dwc_rules.specs.Clones.{UnitSource, is_dropped_name, is_bound_name, is_file_name, constant_form, text_drafted, value_becomes, nothing_unless, bound_becomes, table_becomes, attribute_becomes, attributes_become, if_made}
+use Rattle.dwc_rules.specs.Clones.{UnitSource, is_dropped_name, is_bound_name, is_file_name, constant_form, text_drafted, value_becomes, nothing_unless, bound_becomes, table_becomes, kept_unless, attribute_becomes, attributes_become, if_made}
 use Rattle.dwc_rules.specs.RangeRules.{drafted as address_drafted, list_becomes, code_becomes, told_as}
 use Rattle.dwc_rules.specs.RangeAttributes.{carried_address}
 use Rattle.dwc_rules.specs.Wrappers.{is_wrapped}
@@ -40,7 +40,7 @@ BecomesMeant c e name (Ok (Some d)) = DraftMeans c e (name, d)
 BecomesMeant c e name (Ok None) = Unit {0}
 BecomesMeant c e name (Err refusal) = Unit {0}
 
-module _ (law : CompiledPartsAreWhole) (c : ExpressionSource) (e : Placed) (bounded : IsToldBounded c.told) (plain : is_wrapped e ≡ false) (s : UnitSource) where
+module _ (law : CompiledPartsAreWhole) (c : ExpressionSource) (e : Placed) (bounded : IsToldBounded c.told) (plain : is_wrapped c.told.output e ≡ false) (s : UnitSource) where
   told : {E F : Type 0} (f : E → F) (name : ℕ) (r : Result (Option DraftValue) E) → ((v : TreeValue) → r ≡ Ok (Some (done v)) → ValueMeans c e name v) → BecomesMeant c e name (told_as f r)
   told f name (Ok (Some (done v))) h = h v refl
   told f name (Ok (Some (goes_to goal))) h = tt
@@ -100,6 +100,12 @@ module _ (law : CompiledPartsAreWhole) (c : ExpressionSource) (e : Placed) (boun
   value-means before name (Values.range_reference n) given = listed name _
   value-means before name (Values.range_index i) given = listed name _
 
+  -- what goes once it is read becomes nothing
+  kept-means : (name : ℕ) (goes : Bool) (r : Result (Option DraftValue) Refusal) → BecomesMeant c e name r → BecomesMeant c e name (kept_unless goes r)
+  kept-means name false r h = h
+  kept-means name true (Err refusal) h = tt
+  kept-means name true (Ok v) h = tt
+
   attribute-means : (before : List (ℕ × Value)) (a : ℕ × Value) → Contains e.entry.attributes a → BecomesMeant c e a.0 (attribute_becomes (rules_of_source c) s e before a)
   unfolding attribute_becomes bound_becomes
   attribute-means before a given = go (is_dropped_name a.0) (a.0 == DW_AT_stmt_list) (is_bound_name a.0)
@@ -117,13 +123,13 @@ module _ (law : CompiledPartsAreWhole) (c : ExpressionSource) (e : Placed) (boun
         | true ↦ Ok None
         | false ↦ elim lines [
           | true ↦ Ok (table_becomes s e)
-          | false ↦ elim bounds [ true ↦ bound_becomes (rules_of_source c) s e before a | false ↦ value_becomes (rules_of_source c) s e before a.0 a.1 ]
+          | false ↦ elim bounds [ true ↦ bound_becomes (rules_of_source c) s e before a | false ↦ kept_unless ((rules_of_source c).goes e a.0) (value_becomes (rules_of_source c) s e before a.0 a.1) ]
         ]
       ])
       go true lines bounds = tt
       go false true bounds = table ((e.entry.depth == 0) && is_some s.table)
       go false false true = bound _ _
-      go false false false = value-means before a.0 a.1 given
+      go false false false = kept-means a.0 ((rules_of_source c).goes e a.0) (value_becomes (rules_of_source c) s e before a.0 a.1) (value-means before a.0 a.1 given)
 
   -- those of all attributes
   pub attributes-mean : (before as' : List (ℕ × Value)) → ((a : ℕ × Value) → IsIn a as' → IsIn a e.entry.attributes) → Each (DraftMeans c e) (filter_map (λ a. if_made a.0 a.1) (attributes_become (rules_of_source c) s e before as'))

@@ -1,10 +1,11 @@
 -- The attributes of an entry that was made of one of the input mean what they should.
-use Rattle.std.proofs.Common.{◌≡◌, ℕ, List, [], ◌∷◌, map, Option, Some, None, option_map, Bool, true, false, ap, subst, pos}
+use Rattle.std.proofs.Common.{◌≡◌, inl, inr, ℕ, List, [], ◌∷◌, map, Option, Some, None, option_map, Bool, true, false, ap, subst, pos}
 use Rattle.std.specs.Prelude.{◌==◌, ◌&&◌, if◌then◌else◌}
 use Rattle.std.specs.List.{filter_map}
 use Rattle.dwc_base.specs.declared.constants.TheConstants.{DW_AT_artificial, DW_AT_endianity, DW_AT_low_pc, DW_AT_name, DW_AT_object_pointer, DW_AT_ranges, DW_END_little, DW_FORM_data1, DW_TAG_base_type, DW_TAG_compile_unit}
 use Rattle.dwc_base.specs.declared.records.Address.{Address}
 use Rattle.dwc_base.specs.declared.records.Address.TheVariants.{Symbol, Constant}
+use Rattle.dwc_base.specs.declared.records.OutputFor.{OutputFor}
 use Rattle.dwc_base.proofs.InLists.{contains-in}
 use Rattle.dwc_dwarf.specs.Entries.{Entry}
 use Rattle.dwc_dwarf.specs.RawLists.{ListSource}
@@ -17,12 +18,13 @@ use Rattle.dwc_rules.specs.Kept.{Placed}
 use Rattle.dwc_rules.specs.Drafts.{Goal, DraftValue, done, goes_to}
 use Rattle.dwc_rules.specs.DraftForests.{settled, settled_entry}
 use Rattle.dwc_rules.specs.ObjectPointers.{has_parameters, is_object_pointer, underscored, unlike_this, stays_in_unit, names_no_pointer, pointers_changed}
-use Rattle.dwc_rules.specs.RangeAttributes.{Extent, nowhere, position, intervals, begun_function, extent, length_of, carried_address, bounds, said_intervals, said_extent, range_attributes}
+use Rattle.dwc_rules.specs.RangeAttributes.{Extent, nowhere, position, intervals, begun_function, extent, length_of, carried_address, bounds, said_intervals, said_extent, range_attributes, with_base}
 use Rattle.dwc_rules.specs.Clones.{UnitSource, endianity, attributes_made}
 use Rattle.dwc_rules.specs.CarriedDrafts.{draft_told}
 use Rattle.dwc_rules.specs.LocationRules.{ExpressionSource, lists_of}
 use Rattle.dwc_rules.specs.EntryRules.{wrappers_of, rules_of_source}
 use Rattle.dwc_rules.specs.Wrappers.{is_wrapped}
+use Rattle.dwc_rules.proofs.ListBaseLaws.{BaseOrNone, base-or-none}
 use Rattle.dwc_expr.specs.WholeParts.{CompiledPartsAreWhole}
 use Rattle.dwc_expr.proofs.Meaning.OperationActs.{Each}
 use Rattle.dwc_carry.specs.MeaningsCarried.{ValueMeans, EntryMeans, IsToldBounded}
@@ -58,6 +60,14 @@ module _ (c : ExpressionSource) (e : Placed) where
       go None (position a) = (at (entry.tag == DW_TAG_compile_unit) a, tt)
       go None (intervals []) = tt
       go None (intervals (i ∷ is)) = said-mean entry.tag (native_of_intervals fs (i ∷ is))
+
+  -- nor is the base of a list
+  based-mean : (output : OutputFor) (is_root : Bool) (xs : List (ℕ × TreeValue)) → Each (DraftMeans c e) (drafts xs) → Each (DraftMeans c e) (drafts (with_base output is_root xs))
+  based-mean output is_root xs h = go (base-or-none output is_root xs)
+    where
+      go : BaseOrNone (with_base output is_root xs) xs → Each (DraftMeans c e) (drafts (with_base output is_root xs))
+      go (inl same) = rw same h
+      go (inr same) = rw same (tt, h)
 
   endian-means : (big_endian : Bool) → Each (DraftMeans c e) (endianity big_endian e)
   endian-means big_endian = go (big_endian && (e.entry.tag == DW_TAG_base_type))
@@ -137,13 +147,13 @@ module _ (c : ExpressionSource) (e : Placed) where
 
 -- ---- the entry
 
-pub entry-means : CompiledPartsAreWhole → (c : ExpressionSource) (e : Placed) → IsToldBounded c.told → is_wrapped e ≡ false → (s : UnitSource) (big_endian : Bool) (places : Goal → Option (ℕ × ℕ)) → EntryMeans c e (settled_entry places (draft_told c s big_endian e))
+pub entry-means : CompiledPartsAreWhole → (c : ExpressionSource) (e : Placed) → IsToldBounded c.told → is_wrapped c.told.output e ≡ false → (s : UnitSource) (big_endian : Bool) (places : Goal → Option (ℕ × ℕ)) → EntryMeans c e (settled_entry places (draft_told c s big_endian e))
 unfolding attributes_made
 entry-means law c e bounded plain s big_endian places = λ name v given.
     each-in (Says c e) (settled_entry places (draft_told c s big_endian e)).attributes (name, v)
     (order-each (Says c e) [] (filter_map (settled places) (draft_told c s big_endian e).attributes) tt
     (kept (DraftMeans c e) (Says c e) (settled places) (settled-mean c e places) (draft_told c s big_endian e).attributes
     (changed-mean c e (wrappers_of c).texts c.entries (attributes_made (rules_of_source c) s big_endian e)
-    (both (DraftMeans c e) _ _ (both (DraftMeans c e) _ _ (bounds-mean c e c.functions (lists_of c) e.entry)
+    (both (DraftMeans c e) _ _ (both (DraftMeans c e) _ _ (based-mean c e c.told.output (e.entry.tag == DW_TAG_compile_unit) (range_attributes (lists_of c) c.functions e.entry) (bounds-mean c e c.functions (lists_of c) e.entry))
     (attributes-mean law c e bounded plain s [] e.entry.attributes (λ a i. i))) (endian-means c e big_endian)))))
     (contains-in _ (name, v) given)

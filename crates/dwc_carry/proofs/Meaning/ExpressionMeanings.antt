@@ -116,7 +116,7 @@ module _ (law : CompiledPartsAreWhole) (c : ExpressionSource) (e : Placed) (boun
         go true simple k = simple-value (single_code x.parts) refl (drafted-is (value_of_code (unwrap_or (single_code x.parts) [])) v k)
         go false plain k = over-value plain force.scope refl k
 
-  pub expression-value : (before : List (ℕ × Value)) (name : ℕ) (bytes : List ℕ) (v : TreeValue) → Contains e.entry.attributes (name, expression bytes) → is_wrapped e ≡ false → expression_becomes c e before name bytes ≡ Ok (Some (done v)) → ValueMeans c e name v
+  pub expression-value : (before : List (ℕ × Value)) (name : ℕ) (bytes : List ℕ) (v : TreeValue) → Contains e.entry.attributes (name, expression bytes) → is_wrapped c.told.output e ≡ false → expression_becomes c e before name bytes ≡ Ok (Some (done v)) → ValueMeans c e name v
   unfolding expression_becomes value_of_expression
   expression-value before name bytes v given plain h = base (name == DW_AT_frame_base) refl (sym (ap become plain) ∙ h)
     where

@@ -92,7 +92,7 @@ module _ (law : CompiledPartsAreWhole) (c : ExpressionSource) (e : Placed) (boun
       (inr ((item.start, item.end), refl, record { value = value; given = given; listed = xs; are = are; item = item; among = in-contains xs item found.1; over = refl; compiles = b.compiles }))
       (whole-of law c e bounded item.given.bytes b.parts b.compiles) b.over l b.among
 
-  pub list-value : {E : Type 0} (list_told : ListRefusal → E) (location_told : LocationRefusal → E) (name : ℕ) (value : Value) (v : TreeValue) → Contains e.entry.attributes (name, value) → is_wrapped e ≡ false
+  pub list-value : {E : Type 0} (list_told : ListRefusal → E) (location_told : LocationRefusal → E) (name : ℕ) (value : Value) (v : TreeValue) → Contains e.entry.attributes (name, value) → is_wrapped c.told.output e ≡ false
       → locations_become list_told location_told c e value ≡ Ok (Some (done v)) → ValueMeans c e name v
   unfolding locations_become value_of_locations
   list-value {E} list_told location_told name value v given plain h = go (listed_by c e value) refl h

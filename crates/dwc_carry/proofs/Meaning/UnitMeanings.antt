@@ -26,7 +26,7 @@ use Rattle.dwc_carry.proofs.Meaning.EntryMeanings.{entry-means}
 
 -- what is said of an entry of a unit that is not wrapped
 abbrev Says : Module → Unit → Entry → TreeEntry → Type 0
-Says m u e out = is_wrapped (record { unit = u.header.offset; entry = e }) ≡ false → EntryMeans (expressions_of m u) (record { unit = u.header.offset; entry = e }) out
+Says m u e out = is_wrapped m.told.output (record { unit = u.header.offset; entry = e }) ≡ false → EntryMeans (expressions_of m u) (record { unit = u.header.offset; entry = e }) out
 
 module _ (law : CompiledPartsAreWhole) (big_endian : Bool) (m : Module) (bounded : IsToldBounded m.told) where
   unit-means : (u : Unit) (places : Goal → Option (ℕ × ℕ)) → IsIn u (carried_in (kept_of m)) → UnitMeans (drafts_of big_endian) (carried_unit (record { module_of = m; unit = u })) (settled_unit places (drafts_of big_endian (record { module_of = m; unit = u })))
@@ -37,7 +37,7 @@ module _ (law : CompiledPartsAreWhole) (big_endian : Bool) (m : Module) (bounded
       let here : ◌≡◌ {A = Placed} (record { unit = u.header.offset; entry = p.entry }) p = ap (λ (n : ℕ). record { unit = n; entry = p.entry }) (sym (in-unit m u p i)) in
       subst (λ (q : Placed). EntryMeans c q (settled_entry places (draft_told c (source_of (kept_of m) u) big_endian p))) (sym here)
       (entry-means law c p bounded is (source_of (kept_of m) u) big_endian places))
-      (λ p i is out plain. absurd (true≢false (sym is ∙ ap is_wrapped (ap (λ (n : ℕ). record { unit = n; entry = p.entry }) (in-unit m u p i)) ∙ plain)))
+      (λ p i is out plain. absurd (true≢false (sym is ∙ ap (is_wrapped m.told.output) (ap (λ (n : ℕ). record { unit = n; entry = p.entry }) (in-unit m u p i)) ∙ plain)))
 
 -- The trees of an input of which nothing is refused are those that are made.
 made-trees : (c : Compilation) (trees : List Tree) → forest c ≡ Ok trees → trees_made c ≡ trees

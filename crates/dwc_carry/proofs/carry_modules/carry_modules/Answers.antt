@@ -145,5 +145,5 @@ returns g c =
     let new = c.loop-i.dwarf.units.units.items in
     let texts = c.loop-i.dwarf.strings in
     let behind = rw c.translations-translations.ensures.translations at c.loop-i-test.false in
-    let past : length ms ≤ c.loop-i.i = omega (arith, modules-length compilation.tunables.dwarf_version compilation.translations compilation.functions (told_from registers (names_of compilation) 0 0 compilation.functions compilation.memory_offsets), behind) in
+    let past : length ms ≤ c.loop-i.i = omega (arith, modules-length compilation.tunables.output_for compilation.tunables.dwarf_version compilation.translations compilation.functions (told_from compilation.tunables.output_for registers (names_of compilation) 0 0 compilation.functions compilation.memory_offsets), behind) in
     modules-done encoding big ms old before new texts (record { translated = c.loop-i.translated; vmctx_ptrs = c.loop-i.vmctx_ptrs }) (subst (λ xs. ModulesSoFar encoding big ms old before new texts c.loop-i.vmctx_ptrs.items c.loop-i.translated xs) (drop_all c.loop-i.i ms past) c.loop-i.invariant)

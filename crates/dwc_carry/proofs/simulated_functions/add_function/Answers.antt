@@ -1,4 +1,6 @@
-use Rattle.std.proofs.Common.{ap, ◌∙◌, sym, subst, refl}
+use Rattle.std.proofs.Common.{ℕ, ap, ◌∙◌, sym, subst, refl}
+use Rattle.dwc_native.specs.Functions.{Function}
+use Rattle.dwc_rules.specs.Scopes.{source_end}
 use Rattle.dwc_carried.specs.DefinedFunctions.{DefinedFunction}
 use Rattle.dwc_carry.specs.SimulatedCode.{HasFirstLine}
 use Rattle.dwc_carry.specs.SyntheticUnits.{reference_meant}
@@ -28,6 +30,9 @@ returns-in_ok-locals-in-Some-clause-functions g c = λ m n f before lm found sym
     let same = kept-is c.map.result.now l.transform.now c.args.place c.map.ensures c.index-map-place.result f inside c.index-map-place.is (ap (λ fs. Rattle.std.specs.Prelude.slice_get fs c.args.place) (sym lm.functions) ∙ found) in
     let labels = labels-told registers m l lm c.args.place f c.args.number _ at.0 (c.in-Some.ensures.labels registers) in
     let begun = c.in_ok-index.ensures.begun n (reference_meant l.vmctx_ptr) m d before lm.file (ap (λ x. record { place = c.args.place; function = x }) same) at.0 so in
-    let simulated = function-simulated registers m l lm c.args.place f _ (sym c.in_ok-index.ensures.index) (c.in_ok-locals-in-Some.ensures m d lm.file refl) (c.in-Some.ensures.frame registers f at.0 symbol at.1 at.2) (ap (λ (x : Rattle.dwc_native.specs.Functions.Function). (x.start, x.end)) (sym same)) in
+    let scope =
+    ap (λ (end : ℕ). (c.index-map-place.result.wasm_start, end)) c.source_end.ensures
+    ∙ ap (λ (x : Function). (x.start, source_end x)) (sym same) in
+    let simulated = function-simulated registers m l lm c.args.place f _ (sym c.in_ok-index.ensures.index) (c.in_ok-locals-in-Some.ensures m d lm.file refl) (c.in-Some.ensures.frame registers f at.0 symbol at.1 at.2) scope in
     function-added registers m l lm c.args.place f n before _ c.in_ok-index.entry.index c.add_variables.new.strings c.add_variables.new.unit c.add_variables.result labels
     (c.add_variables.ensures.variables n m d before simulated (subst (λ keys. Rattle.dwc_carry.specs.SimulatedDrafts.HasVariables n (reference_meant l.vmctx_ptr) m d c.begin_function.new.strings before keys c.in_ok-index.entry.index c.begin_function.new.unit) labels begun))

@@ -112,5 +112,5 @@ returns-clause-entries g c = λ number whole has.
     let registers = (goal.TargetIsa-dyn g c.args.isa.now).dwarf_registers c.args.isa.now.1 in
     let ms = modules_of registers compilation in
     let behind = rw c.translations-translations.ensures.translations at c.loop-i-test.false in
-    let past : length ms ≤ c.loop-i.i = omega (arith, modules-length compilation.tunables.dwarf_version compilation.translations compilation.functions (told_from registers (names_of compilation) 0 0 compilation.functions compilation.memory_offsets), behind) in
+    let past : length ms ≤ c.loop-i.i = omega (arith, modules-length compilation.tunables.output_for compilation.tunables.dwarf_version compilation.translations compilation.functions (told_from compilation.tunables.output_for registers (names_of compilation) 0 0 compilation.functions compilation.memory_offsets), behind) in
     added-done (is_noted c.args.translated.now) ms c.args.vmctx_ptrs.now c.args.strings.now c.args.unit.now c.loop-i.strings c.loop-i.unit c.loop-i.i past c.loop-i.invariant number whole has

@@ -33,7 +33,7 @@ returns-then-not-is_file_name-clause-added g c =
 pub simulated_unit-requires-clause-transforms : goal.simulated_unit-requires-clause-transforms
 simulated_unit-requires-clause-transforms g c =
     let registers = (goal.TargetIsa-dyn g c.args.isa.now).dwarf_registers c.args.isa.now.1 in
-    c.requires.transforms ∙ ap (λ (x : CompilationValue). functions_from 0 x.translations x.functions) (sym (c.in_ok-path.ensures.counter registers))
+    c.requires.transforms ∙ ap (λ (x : CompilationValue). functions_from x.tunables.output_for 0 x.translations x.functions) (sym (c.in_ok-path.ensures.counter registers))
 
 pub simulated_unit-requires-clause-maps : goal.simulated_unit-requires-clause-maps
 simulated_unit-requires-clause-maps g c =
@@ -44,6 +44,12 @@ pub simulated_unit-requires-clause-contexts : goal.simulated_unit-requires-claus
 simulated_unit-requires-clause-contexts g c =
     let registers = (goal.TargetIsa-dyn g c.args.isa.now).dwarf_registers c.args.isa.now.1 in
     c.requires.contexts ∙ ap (λ (x : CompilationValue). length x.translations) (sym (c.in_ok-path.ensures.counter registers))
+
+pub simulated_unit-requires-clause-some : goal.simulated_unit-requires-clause-some
+simulated_unit-requires-clause-some g c =
+    let registers = (goal.TargetIsa-dyn g c.args.isa.now).dwarf_registers c.args.isa.now.1 in
+    let some : 0 < length c.args.compilation.now.translations = subst (λ ts. 0 < length ts) c.translations.ensures.translations (not-none c.translations.result.now (sym c.is_empty.ensures ∙ c.if-is_empty.false)) in
+    subst (λ (x : CompilationValue). 0 < length x.translations) (sym (c.in_ok-path.ensures.counter registers)) some
 
 pub simulated_unit-requires-clause-path : goal.simulated_unit-requires-clause-path
 simulated_unit-requires-clause-path g c =

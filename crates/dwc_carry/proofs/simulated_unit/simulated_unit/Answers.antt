@@ -1,6 +1,7 @@
-use Rattle.std.proofs.Common.{ℕ, ap, map, sym, subst, ◌∙◌, All}
+use Rattle.std.proofs.Common.{ℕ, ap, map, sym, subst, ◌∙◌, All, ◌≡◌}
 use Rattle.std.proofs.lemmas.Result.{err_from_is_err_and}
-use Rattle.dwc_carried.specs.SimulatedUnit.{simulated_unit}
+use Rattle.dwc_base.specs.declared.records.Tunables.{Tunables}
+use Rattle.dwc_carried.specs.SimulatedUnit.{simulated_unit, output_of}
 use Rattle.dwc_image.specs.SimulatedSequences.{simulated_view}
 use Rattle.dwc_clone.specs.BegunNumbers.{is_noted}
 use Rattle.dwc_carry.specs.Inputs.{modules_of}
@@ -11,6 +12,7 @@ use Rattle.dwc_carry.proofs.SimulatedUnitMade.{simulated_unit-made, modules-left
 use Rattle.dwc_carry.proofs.SimulatedCodeLaws.{all-left}
 use Rattle.dwc_carry.proofs.MadeLaws.{grows-same, grows-twice}
 use Rattle.dwc_carry.proofs.simulated_unit.simulated_unit.Goals as goal
+use Rattle.dwc_carry.proofs.CompiledLaws.{output-is}
 
 pub typed_unit-requires-clause-functions : goal.typed_unit-requires-clause-functions
 typed_unit-requires-clause-functions g c = subst (λ xs. All CanWrite (map simulated_view xs)) (sym c.deref.ensures.value) c.in_ok-functions.ensures.fit
@@ -34,7 +36,8 @@ returns-in_err-add_modules-clause-unit g c =
     let u = c.in_ok-unit.unit in
     let fs = map simulated_view c.in_ok-functions.functions.items in
     let simulated = c.in_ok-functions.ensures.simulated ∙ ap (left_in translated compilation.translations) c.requires.transforms ∙ all-left registers compilation translated c.in_ok-functions.ensures.counted in
-    let typed = subst (λ xs. IsTyped encoding path (map simulated_view xs) middle u) c.deref.ensures.value c.in_ok-unit.ensures.typed in
+    let asked : c.tunables.result.now.output_for ≡ output_of ms = ap (λ (t : Tunables). t.output_for) c.tunables.ensures ∙ sym (output-is registers compilation c.in_ok-functions.ensures.counted c.requires.some) in
+    let typed = subst (λ o. IsTyped o encoding path fs middle u) asked (subst (λ xs. IsTyped c.tunables.result.now.output_for encoding path (map simulated_view xs) middle u) c.deref.ensures.value c.in_ok-unit.ensures.typed) in
     let p = err_from_is_err_and c.from_residual-in_err-add_modules.result c.from_residual-in_err-add_modules.ensures.1 in
     rw (p.1, p.2) (c.in_err-add_modules.ensures.entries 0 (simulated_unit translated path 0 pointers ms) (modules-left translated encoding path 0 pointers ms fs middle u simulated typed))
 
@@ -51,7 +54,8 @@ returns-clause-unit g c =
     let u = c.in_ok-unit.unit in
     let fs = map simulated_view c.in_ok-functions.functions.items in
     let simulated = c.in_ok-functions.ensures.simulated ∙ ap (left_in translated compilation.translations) c.requires.transforms ∙ all-left registers compilation translated c.in_ok-functions.ensures.counted in
-    let typed = subst (λ xs. IsTyped encoding path (map simulated_view xs) middle u) c.deref.ensures.value c.in_ok-unit.ensures.typed in
+    let asked : c.tunables.result.now.output_for ≡ output_of ms = ap (λ (t : Tunables). t.output_for) c.tunables.ensures ∙ sym (output-is registers compilation c.in_ok-functions.ensures.counted c.requires.some) in
+    let typed = subst (λ o. IsTyped o encoding path fs middle u) asked (subst (λ xs. IsTyped c.tunables.result.now.output_for encoding path (map simulated_view xs) middle u) c.deref.ensures.value c.in_ok-unit.ensures.typed) in
     let entries = λ (number : ℕ). c.in_ok-add_modules.ensures.entries number (simulated_unit translated path number pointers ms) (modules-left translated encoding path number pointers ms fs middle u simulated typed) in (
       (entries 0).0,
       simulated_unit-made translated encoding path ms c.args.vmctx_ptrs.now fs c.args.strings.now middle c.add_modules.new.strings u c.add_modules.new.unit simulated c.in_ok-functions.ensures.fit c.typed_unit.ensures.grows c.add_modules.ensures.grows typed c.in_ok-add_modules.ensures.begins (λ number. (entries number).1),

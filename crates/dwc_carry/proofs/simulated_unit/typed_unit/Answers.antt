@@ -25,5 +25,5 @@ pub returns-clause-typed : goal.returns-clause-typed
 returns-clause-typed c =
     let encoding = c.args.encoding in
     let lines = c.in_ok-lines.ensures.lines ∙ ap (λ name. Rattle.dwc_image.specs.SimulatedSequences.simulated_program encoding.address_size name (map simulated_view c.args.functions.now)) c.path_name.ensures in
-    unit-typed encoding c.args.path.now (map simulated_view c.args.functions.now) c.root_texts.new.strings c.type_texts.new.strings c.in_ok-texts.texts c.in_ok-types.types c.in_ok-ranges.ranges c.in_ok-unit.unit c.add_types.new.unit c.type_texts.ensures.grows
-    c.in_ok-texts.ensures.known c.in_ok-types.ensures.known c.in_ok-ranges.ensures (c.in_ok-unit.ensures ∙ ap (λ (g : GivenLines). root_given encoding.version encoding.address_size g c.in_ok-texts.texts c.in_ok-ranges.ranges) lines) c.in_ok-add_types.ensures.added
+    unit-typed c.args.output_for encoding c.args.path.now (map simulated_view c.args.functions.now) c.root_texts.new.strings c.type_texts.new.strings c.in_ok-texts.texts c.in_ok-types.types c.in_ok-ranges.ranges c.in_ok-unit.unit c.add_types.new.unit c.type_texts.ensures.grows
+    c.in_ok-texts.ensures.known c.in_ok-types.ensures.known c.in_ok-ranges.ensures (c.in_ok-unit.ensures ∙ ap (λ (g : GivenLines). root_given c.args.output_for encoding.version encoding.address_size g c.in_ok-texts.texts c.in_ok-ranges.ranges) lines) c.in_ok-add_types.ensures.added
