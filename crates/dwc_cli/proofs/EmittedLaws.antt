@@ -10,6 +10,7 @@ use Rattle.std.proofs.lemmas.List.{length-map, map-append}
 use Rattle.dwc_base.specs.declared.records.Endian.{Endian}
 use Rattle.dwc_base.specs.declared.records.Endian.TheVariants.{Little, Big}
 use Rattle.dwc_base.specs.declared.records.MapFault.{MapFault}
+use Rattle.dwc_base.specs.declared.records.OutputFor.{OutputFor}
 use Rattle.dwc_base.specs.declared.output.DwarfSection.{DwarfSection}
 use Rattle.dwc_base.specs.declared.translation.ModuleTranslation.{ModuleTranslation}
 use Rattle.dwc_native.specs.SharedSymbols.{shared_symbol}
@@ -101,8 +102,9 @@ frames-same : (fs : List Compiled) → frames_in fs ≡ map (λ (f : value.MapFu
 frames-same [] = refl
 frames-same (f ∷ fs) = ap (λ ds. description_of_metadata f.1 ∷ ds) (frames-same fs)
 
-told-same : (registers : Registers) (names : LinkageNames) (place number : ℕ) (m : MapModule) → told_module place number m.functions.items m.memory registers names ≡ told_of registers names place number (views.module_view m)
-told-same registers names place number m = λ i. record {
+told-same : (output : OutputFor) (registers : Registers) (names : LinkageNames) (place number : ℕ) (m : MapModule) → told_module output place number m.functions.items m.memory registers names ≡ told_of output registers names place number (views.module_view m)
+told-same output registers names place number m = λ i. record {
+  output = output;
   place = place;
   values = values_from number (values-same m.functions.items i);
   labels = labels_from number (labels-same m.functions.items i);
@@ -112,33 +114,33 @@ told-same registers names place number m = λ i. record {
   names = names;
 }
 
-module-same : (version number : ℕ) (t u : ModuleTranslation) (w : WasmModule) (path : Option (List ℕ)) (fs gs : List AddressMap) (told seen : ToldModule) → fs ≡ gs → told ≡ seen → IsWholeTranslation t w → HasPath t path u
-    → ◌≡◌ {A = Module} (record { sections = translation_sections u; functions = functions_of u.code_section_offset number fs; told = told; file = told_file u; compressed = u.compressed; version = version }) (record { sections = module_sections w; functions = functions_of w.code_offset number gs; told = seen; file = file_of path w; compressed = w.compressed; version = version })
-module-same version number t u w path fs gs told seen maps tells is has = λ i. record {
+module-same : (output : OutputFor) (version number : ℕ) (t u : ModuleTranslation) (w : WasmModule) (path : Option (List ℕ)) (fs gs : List AddressMap) (told seen : ToldModule) → fs ≡ gs → told ≡ seen → IsWholeTranslation t w → HasPath t path u
+    → ◌≡◌ {A = Module} (record { sections = translation_sections u; functions = functions_of output u.code_section_offset number fs; told = told; file = told_file u; compressed = u.compressed; version = version }) (record { sections = module_sections w; functions = functions_of output w.code_offset number gs; told = seen; file = file_of path w; compressed = w.compressed; version = version })
+module-same output version number t u w path fs gs told seen maps tells is has = λ i. record {
   sections = (ap translation_sections has.same ∙ translation_sections-is t w is.0) i;
-  functions = functions_of (code_offset-is t u w path is has i) number (maps i);
+  functions = functions_of output (code_offset-is t u w path is has i) number (maps i);
   told = tells i;
   file = told_file-with_path t u w path is has i;
   compressed = (ap (λ x. x.compressed) has.same ∙ (is.0).compressed) i;
   version = version;
 }
 
-pub modules-same : (version : ℕ) (registers : Registers) (names : LinkageNames) (place number : ℕ) (ts us : List ModuleTranslation) (ws : List WasmModule) (ms : List MapModule) → AllZip IsWholeTranslation ts ws → HavePaths ts (paths_in ms) us
-    → carry.modules_from version number us (functions_in ms) (carry.told_from registers names place number (functions_in ms) (memories_in ms)) ≡ modules_of version registers names place number ws (modules_in ms)
-modules-same version registers names place number [] [] [] [] h has = refl
-modules-same version registers names place number [] [] (w ∷ ws) ms h has = absurd h
-modules-same version registers names place number (t ∷ ts) us [] ms h has = absurd h
-modules-same version registers names place number (t ∷ ts) (u ∷ us) (w ∷ ws) (m ∷ ms) h has =
+pub modules-same : (output : OutputFor) (version : ℕ) (registers : Registers) (names : LinkageNames) (place number : ℕ) (ts us : List ModuleTranslation) (ws : List WasmModule) (ms : List MapModule) → AllZip IsWholeTranslation ts ws → HavePaths ts (paths_in ms) us
+    → carry.modules_from output version number us (functions_in ms) (carry.told_from output registers names place number (functions_in ms) (memories_in ms)) ≡ modules_of output version registers names place number ws (modules_in ms)
+modules-same output version registers names place number [] [] [] [] h has = refl
+modules-same output version registers names place number [] [] (w ∷ ws) ms h has = absurd h
+modules-same output version registers names place number (t ∷ ts) us [] ms h has = absurd h
+modules-same output version registers names place number (t ∷ ts) (u ∷ us) (w ∷ ws) (m ∷ ms) h has =
     let fs = m.functions.items in
     let count : length (map views.function_view fs) ≡ length fs = length-map fs views.function_view in
-    let first = module-same version number t u w (views.path_view m.path) (map address_map_view fs) (map (λ f. f.address_map) (map views.function_view fs)) (told_module place number fs m.memory registers names) (told_of registers names place number (views.module_view m)) (maps-same fs) (told-same registers names place number m) h.0 has.0 in
-    rw (first, count, modules-same version registers names (suc place) (number + length fs) ts us ws ms h.1 has.1) refl
-modules-same version registers names place number [] (u ∷ us) ws [] h has = absurd has
-modules-same version registers names place number [] (u ∷ us) ws (m ∷ ms) h has = absurd has
-modules-same version registers names place number [] [] ws (m ∷ ms) h has = absurd has
-modules-same version registers names place number (t ∷ ts) [] (w ∷ ws) [] h has = absurd has
-modules-same version registers names place number (t ∷ ts) [] (w ∷ ws) (m ∷ ms) h has = absurd has
-modules-same version registers names place number (t ∷ ts) (u ∷ us) (w ∷ ws) [] h has = absurd has
+    let first = module-same output version number t u w (views.path_view m.path) (map address_map_view fs) (map (λ f. f.address_map) (map views.function_view fs)) (told_module output place number fs m.memory registers names) (told_of output registers names place number (views.module_view m)) (maps-same fs) (told-same output registers names place number m) h.0 has.0 in
+    rw (first, count, modules-same output version registers names (suc place) (number + length fs) ts us ws ms h.1 has.1) refl
+modules-same output version registers names place number [] (u ∷ us) ws [] h has = absurd has
+modules-same output version registers names place number [] (u ∷ us) ws (m ∷ ms) h has = absurd has
+modules-same output version registers names place number [] [] ws (m ∷ ms) h has = absurd has
+modules-same output version registers names place number (t ∷ ts) [] (w ∷ ws) [] h has = absurd has
+modules-same output version registers names place number (t ∷ ts) [] (w ∷ ws) (m ∷ ms) h has = absurd has
+modules-same output version registers names place number (t ∷ ts) (u ∷ us) (w ∷ ws) [] h has = absurd has
 
 -- ---- the first bad address map
 
@@ -203,16 +205,16 @@ registers_in f = registers_of f.target.registers.items
 abbrev names_in : MapFile → LinkageNames
 names_in f = views.linkage_names f.names
 
-pub compiled : (ts us : List ModuleTranslation) (f : MapFile) (read : Loaded) → HavePaths ts (paths_in f.modules.items) us → IsReadAs ts f read → IsCompiled f.target.version (order_in f) f.target.pointer_bytes (registers_in f) (entry_in f) (names_in f) us (functions_in f.modules.items) (memories_in f.modules.items) f.next_id read
+pub compiled : (ts us : List ModuleTranslation) (f : MapFile) (read : Loaded) → HavePaths ts (paths_in f.modules.items) us → IsReadAs ts f read → IsCompiled f.target.output_for f.target.version (order_in f) f.target.pointer_bytes (registers_in f) (entry_in f) (names_in f) us (functions_in f.modules.items) (memories_in f.modules.items) f.next_id read
 compiled ts us f read has seen = record {
-  input = ap (λ v. compilation_of (of_view read v)) (sym seen.map_is) ∙ ap (of_modules f) (sym (modules-same f.target.version (registers_in f) (names_in f) 0 0 ts us read.wasm f.modules.items seen.wasm has));
+  input = ap (λ v. compilation_of (of_view read v)) (sym seen.map_is) ∙ ap (of_modules f) (sym (modules-same f.target.output_for f.target.version (registers_in f) (names_in f) 0 0 ts us read.wasm f.modules.items seen.wasm has));
   maps = ap (λ v. bad_map (of_view read v)) (sym seen.map_is) ∙ sym (bad-same 0 ts us read.wasm f.modules.items seen.wasm has);
   symbols = ap (λ v. shared_in (of_view read v)) (sym seen.map_is) ∙ ap shared_symbol (sym (symbols-same f.modules.items));
 }
 
 -- ---- what hinders
 
-module _ (c : CompilationValue) (order : Endian) (size : ℕ) (registers : Registers) (entry : Option CommonEntry) (read : Loaded) (is : IsCompiled c.tunables.dwarf_version order size registers entry (carry.names_of c) c.translations c.functions c.memory_offsets c.next_id read) where
+module _ (c : CompilationValue) (order : Endian) (size : ℕ) (registers : Registers) (entry : Option CommonEntry) (read : Loaded) (is : IsCompiled c.tunables.output_for c.tunables.dwarf_version order size registers entry (carry.names_of c) c.translations c.functions c.memory_offsets c.next_id read) where
   -- what was read is the compilation's input
   input-is : compilation_of read ≡ carry.input_of order size registers entry c
   input-is = is.input
@@ -271,10 +273,10 @@ module _ (c : CompilationValue) (order : Endian) (size : ℕ) (registers : Regis
 shared-some : (read : Loaded) (functions : ℕ × ℕ) → shared_in read ≡ Some functions → hindrance read ≡ Some 21
 shared-some read functions e = rw e refl
 
-pub refused-compiling : (A : Type 0) (version : ℕ) (ts : List ModuleTranslation) (fss : List (List Compiled)) (offsets : List ModuleMemoryOffset) (order : Endian) (size : ℕ) (registers : Registers) (entry : Option CommonEntry) (names : LinkageNames) (next_id : ℕ) (read : Loaded) → IsCompiled version order size registers entry names ts fss offsets next_id read
+pub refused-compiling : (A : Type 0) (output : OutputFor) (version : ℕ) (ts : List ModuleTranslation) (fss : List (List Compiled)) (offsets : List ModuleMemoryOffset) (order : Endian) (size : ℕ) (registers : Registers) (entry : Option CommonEntry) (names : LinkageNames) (next_id : ℕ) (read : Loaded) → IsCompiled output version order size registers entry names ts fss offsets next_id read
     → (e : CompilationError) → AreDistinct {A = A} (all_symbols fss) (Err e) → IsCause read (compiling_status e)
-refused-compiling A version ts fss offsets order size registers entry names next_id read is (compiling.SharedSymbol first second) h = inr (inl (shared-some read (first, second) (is.symbols ∙ h)))
-refused-compiling A version ts fss offsets order size registers entry names next_id read is compiling.OutOfMemory h = inl refl
+refused-compiling A output version ts fss offsets order size registers entry names next_id read is (compiling.SharedSymbol first second) h = inr (inl (shared-some read (first, second) (is.symbols ∙ h)))
+refused-compiling A output version ts fss offsets order size registers entry names next_id read is compiling.OutOfMemory h = inl refl
 
 -- ---- counts
 

@@ -6,10 +6,11 @@ use Rattle.std.specs.Str.{is_utf8, bytes_eq}
 use Rattle.serde_json.specs.Data.{Data, null, boolean, number, string, array, object, no_items, item, Members}
 use Rattle.serde_json.specs.Read.{read}
 use Rattle.serde_json.specs.Find.{get_member}
+use Rattle.dwc_base.specs.declared.records.OutputFor.TheVariants.{Default}
 use Rattle.dwc_native.specs.Compiled as told
 use Rattle.dwc_native.specs.Compiled.{Place, in_register, at_frame_offset, LabelRange, Memory, no_memory}
 use Rattle.dwc_native.specs.BuiltExpressions.{IsBoundedPlace, IsBoundedMemory}
-use Rattle.dwc_map.specs.MapFile.{Target, MapFunction, MapModule, MapFile, register_numbers_of, target_of, places, place_of, label_range_of, labels_of, entries_of, map_function_of, imported_of, memory_by, memory_of, path_of, functions_of, map_module_of, modules_of, have_counts, is_countable, map_in, map_in_bytes, map_for, map_of_bytes, architecture_of, pointer_bytes_of, version_of}
+use Rattle.dwc_map.specs.MapFile.{Target, MapFunction, MapModule, MapFile, register_numbers_of, target_of, places, place_of, label_range_of, labels_of, entries_of, map_function_of, imported_of, memory_by, memory_of, path_of, functions_of, map_module_of, modules_of, have_counts, is_countable, map_in, map_in_bytes, map_for, map_of_bytes, architecture_of, pointer_bytes_of, version_of, output_of}
 use Rattle.dwc_map.specs.MapValues.{◌>>=◌, only_if, u16_of, u32_of, i64_of, nullable, source_of, truth_of, text_of, list_of, pair_of, four_of, members_of, required, with_default, named_in}
 use Rattle.dwc_map.specs.MapFrames.{cie_in, frame_in}
 use Rattle.dwc_cli.proofs.Options.{same_some, map-some, then-some, bind-some, only_if-some}
@@ -149,7 +150,8 @@ target-bounded d t fit e =
     let big_endian = bind-some (with_default (codes "big_endian") false truth_of ms.0) _ t architecture.2 in
     let pointer_bytes = bind-some (with_default (codes "pointer_bytes") 8 pointer_bytes_of ms.0) _ t big_endian.2 in
     let version = bind-some (with_default (codes "version") 4 version_of ms.0) _ t pointer_bytes.2 in
-    let registers = bind-some (with_default (codes "registers") finite.empty register_numbers_of ms.0) _ t version.2 in
+    let output = bind-some (with_default (codes "debugger") Default output_of ms.0) _ t version.2 in
+    let registers = bind-some (with_default (codes "registers") finite.empty register_numbers_of ms.0) _ t output.2 in
     let common_entry = bind-some (cie_in ms.0) _ t registers.2 in
     let is : registers.0 ≡ t.registers = ap (λ (x : Target). x.registers) (same_some _ t common_entry.2) in
     subst (HoldsIn IsRegister) is (default-holds (HoldsIn IsRegister) register_numbers_of registers-bounded (codes "registers") finite.empty ms.0 registers.0 (empty-holds IsRegister) fields registers.1)

@@ -6,6 +6,7 @@ use Rattle.std.specs.Option.{option_or}
 use Rattle.std.specs.Result.{result_ok}
 use Rattle.std.proofs.lemmas.List.Elements.{All-nil, All-cons, All-head, All-tail}
 use Rattle.serde_json.specs.Read.{read}
+use Rattle.dwc_base.specs.declared.records.OutputFor.{OutputFor}
 use Rattle.dwc_base.specs.Wasm.{WasmModule}
 use Rattle.dwc_native.specs.Compiled.{Place, LabelRange, LinkageNames}
 use Rattle.dwc_native.specs.Placed.{is_between, last_place}
@@ -41,19 +42,19 @@ last-bounded (r ∷ rs) byte p all e = go (last_place rs byte) (is_between r.sta
     go None true later e = subst IsBoundedPlace (same_some r.place p e) (All-head IsBoundedRange r rs all)
     go None false later e = absurd (cc)
 
-module _ (version : ℕ) (registers : Registers) (names : LinkageNames) (numbers : HoldsIn IsRegister registers) where
-  module-told : (place first : ℕ) (m : MapModule) → IsBoundedModule m → IsToldBounded (inputs.told_of registers names place first m)
+module _ (output : OutputFor) (version : ℕ) (registers : Registers) (names : LinkageNames) (numbers : HoldsIn IsRegister registers) where
+  module-told : (place first : ℕ) (m : MapModule) → IsBoundedModule m → IsToldBounded (inputs.told_of output registers names place first m)
   module-told place first m b = record {
     registers = λ r n at. numbers r n at;
     places = λ function label byte p at. last-bounded (unwrap_or (slice_get (map ranges_of m.functions) (function - first)) (λ l. []) label) byte p (values-bounded m.functions (function - first) label b.functions) at;
     memory = b.memory;
   }
 
-  modules-told : (place first : ℕ) (ws : List WasmModule) (ms : List MapModule) → All IsBoundedModule ms → All (λ (m : Module). IsToldBounded m.told) (inputs.modules_of version registers names place first ws ms)
+  modules-told : (place first : ℕ) (ws : List WasmModule) (ms : List MapModule) → All IsBoundedModule ms → All (λ (m : Module). IsToldBounded m.told) (inputs.modules_of output version registers names place first ws ms)
   modules-told place first [] ms all = All-nil (λ (m : Module). IsToldBounded m.told)
   modules-told place first (w ∷ ws) [] all = All-nil (λ (m : Module). IsToldBounded m.told)
   modules-told place first (w ∷ ws) (m ∷ ms) all =
-      All-cons (λ (m : Module). IsToldBounded m.told) _ (inputs.modules_of version registers names (suc place) (first + length m.functions) ws ms) (module-told place first m (All-head IsBoundedModule m ms all))
+      All-cons (λ (m : Module). IsToldBounded m.told) _ (inputs.modules_of output version registers names (suc place) (first + length m.functions) ws ms) (module-told place first m (All-head IsBoundedModule m ms all))
       (modules-told (suc place) (first + length m.functions) ws ms (All-tail IsBoundedModule m ms all))
 
 -- of what some files hold
@@ -65,4 +66,4 @@ told-bounded input read e =
     let whole : Loaded = record { wasm = ws.0; map_file = m.0 } in
     let bounded = map-bounded (defined_counts ws.0) input.map_bytes m.0 m.1 in
     subst (λ (r : Loaded). All (λ (x : Module). IsToldBounded x.told) (compilation_of r).modules) (same_some whole read m.2)
-    (modules-told m.0.target.version m.0.target.registers (names_of m.0) bounded.registers 0 0 ws.0 m.0.modules bounded.modules)
+    (modules-told m.0.target.output m.0.target.version m.0.target.registers (names_of m.0) bounded.registers 0 0 ws.0 m.0.modules bounded.modules)

@@ -6,6 +6,7 @@ use Rattle.std.specs.Result.{result_ok}
 use Rattle.std.specs.List.{list_all, flat_map}
 use Rattle.dwc_base.specs.declared.records.Endian.TheVariants.{Little, Big}
 use Rattle.dwc_base.specs.declared.records.MapFault.{MapFault}
+use Rattle.dwc_base.specs.declared.records.OutputFor.{OutputFor}
 use Rattle.dwc_base.specs.Wasm.{WasmModule, wasm_module, module_sections}
 use Rattle.dwc_native.specs.Functions.{map_fault, functions_of}
 use Rattle.dwc_native.specs.Compiled.{LabelRange, LinkageNames, ToldModule, frames_from, labels_from, values_from}
@@ -72,9 +73,11 @@ ranges_of f label = unwrap_or (finite.get f.labels label) []
 abbrev pub names_of : MapFile → LinkageNames
 names_of m = record { set_memory = m.set_memory; resolve_memory = m.resolve_memory }
 
--- what is told of the module at a place, of whose functions the first has a number, for a target that numbers registers, with names
-abbrev pub told_of : Registers → LinkageNames → ℕ → ℕ → MapModule → ToldModule
-told_of registers names place number m = record {
+-- what is told, for some output, of the module at a place, of whose functions the first has a number, for a target that numbers registers,
+-- with names
+abbrev pub told_of : OutputFor → Registers → LinkageNames → ℕ → ℕ → MapModule → ToldModule
+told_of output registers names place number m = record {
+  output = output;
   place = place;
   values = values_from number (map ranges_of m.functions);
   labels = labels_from number (map (λ f. finite.keys f.labels) m.functions);
@@ -84,25 +87,25 @@ told_of registers names place number m = record {
   names = names;
 }
 
--- the modules of a compilation from a place on, carried to a version: the sections of a file, the functions of the map, numbered over all
+-- the modules of a compilation from a place on, carried to an output of a version: the sections of a file, the functions of the map, numbered over all
 -- modules, and what the map tells beside them
-abbrev pub modules_of : ℕ → Registers → LinkageNames → ℕ → ℕ → List WasmModule → List MapModule → List Module
-modules_of version registers names place number [] ms = []
-modules_of version registers names place number (w ∷ ws) [] = []
-modules_of version registers names place number (w ∷ ws) (m ∷ ms) =
+abbrev pub modules_of : OutputFor → ℕ → Registers → LinkageNames → ℕ → ℕ → List WasmModule → List MapModule → List Module
+modules_of output version registers names place number [] ms = []
+modules_of output version registers names place number (w ∷ ws) [] = []
+modules_of output version registers names place number (w ∷ ws) (m ∷ ms) =
     record {
       sections = module_sections w;
-      functions = functions_of w.code_offset number (map (λ f. f.address_map) m.functions);
-      told = told_of registers names place number m;
+      functions = functions_of output w.code_offset number (map (λ f. f.address_map) m.functions);
+      told = told_of output registers names place number m;
       file = file_of m.path w;
       compressed = w.compressed;
       version = version;
     }
-    ∷ modules_of version registers names (suc place) (number + length m.functions) ws ms
+    ∷ modules_of output version registers names (suc place) (number + length m.functions) ws ms
 
 -- the compilation of a map and modules
 abbrev pub compilation : MapFile → List WasmModule → Compilation
-compilation m ws = record { order = if m.target.big_endian then Big else Little; pointer_bytes = m.target.pointer_bytes; modules = modules_of m.target.version m.target.registers (names_of m) 0 0 ws m.modules; next_id = m.next_id; common_entry = m.target.common_entry; version = m.target.version }
+compilation m ws = record { order = if m.target.big_endian then Big else Little; pointer_bytes = m.target.pointer_bytes; modules = modules_of m.target.output m.target.version m.target.registers (names_of m) 0 0 ws m.modules; next_id = m.next_id; common_entry = m.target.common_entry; version = m.target.version }
 
 -- what was read of an input: its modules, and its map
 pub record Loaded : Type 0 where

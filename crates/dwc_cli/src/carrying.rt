@@ -18,22 +18,24 @@ ghost use Rattle.dwc_cli.specs.Compiled.{IsCompiled};
 
 use crate::failure::Failure;
 use dwc_addr::{Compilation, LinkageNames};
-use dwc_base::{Endian, ModuleTranslation, SymbolId, Tunables};
+use dwc_base::{Endian, ModuleTranslation, OutputFor, SymbolId, Tunables};
 use dwc_carry::{CarriedDwarf, DebugError, carry_dwarf};
 use dwc_compiled::CompiledFunctionMetadata;
 use dwc_isa::{ModuleMemoryOffset, TableIsa};
 use dwc_map::{MapFile, MapModule, Names, Target};
 use std::alloc::{AllocError, Global};
 
-// How code is generated and laid out, as far as a map does not tell it, and the version of DWARF that is written.
-fn tunables(version: u16) -> Tunables
-    ensures { result.dwarf_version ≡ version }
+// How code is generated and laid out, as far as a map does not tell it, the version of DWARF that is written, and whom it is written for.
+fn tunables(version: u16, output_for: OutputFor) -> Tunables
+    ensures version { result.dwarf_version ≡ version }
+    ensures output { result.output_for ≡ output_for }
 {
     Tunables {
         debug_symbols: true,
         page_align: 4096,
         internal_traps: false,
         dwarf_version: version,
+        output_for,
     }
 }
 
@@ -88,10 +90,10 @@ fn carry_at(
     requires counted { IsCounted translations.now (lists functions.now) memory_offsets.items }
     requires names { AreNames (string_bytes names.now.set) (string_bytes names.now.resolve) }
     requires sorted { All HasSortedNames translations.now }
-    ensures carried { (read : Loaded) → IsCompiled target.version (if target.big_endian then Big else Little) target.pointer_bytes (registers_of target.registers.items) (option_map cie_view target.cie) (linkage_names names.now) translations.now (lists functions.now) memory_offsets.items next_id read → Carries read result }
+    ensures carried { (read : Loaded) → IsCompiled target.output_for target.version (if target.big_endian then Big else Little) target.pointer_bytes (registers_of target.registers.items) (option_map cie_view target.cie) (linkage_names names.now) translations.now (lists functions.now) memory_offsets.items next_id read → Carries read result }
     ensures ready { IfOk result IsReady }
 {
-    let tunables = tunables(target.version);
+    let tunables = tunables(target.version, target.output_for);
     let isa = table_of(alloc, target)?;
     compiled(
         alloc,
@@ -120,7 +122,7 @@ fn compiled<'a>(
     requires counted { IsCounted translations.now (lists functions.now) memory_offsets.items }
     requires names { AreNames (string_bytes names.now.set) (string_bytes names.now.resolve) }
     requires sorted { All HasSortedNames translations.now }
-    ensures carried { (read : Loaded) → IsCompiled tunables.now.dwarf_version isa.now.order isa.now.pointer_bytes isa.now.registers isa.now.common_entry (linkage_names names.now) translations.now (lists functions.now) memory_offsets.items next_id read → Carries read result }
+    ensures carried { (read : Loaded) → IsCompiled tunables.now.output_for tunables.now.dwarf_version isa.now.order isa.now.pointer_bytes isa.now.registers isa.now.common_entry (linkage_names names.now) translations.now (lists functions.now) memory_offsets.items next_id read → Carries read result }
     ensures ready { IfOk result IsReady }
 {
     let names = LinkageNames {

@@ -4,8 +4,8 @@ ghost use Rattle.dwc_base.specs.TranslationNames.{HasSortedNames};
 
 use crate::compiled::{functions_of, transform_of};
 use crate::module_file::SMALL;
-use dwc_base::ModuleTranslation;
 use dwc_base::constants::DW_TAG_subprogram;
+use dwc_base::{ModuleTranslation, OutputFor};
 use dwc_carry::{build_dependencies, resolve_die_ref};
 use dwc_kept::Kept;
 use dwc_read::{AttributeValue, Sections, Units};
@@ -51,7 +51,7 @@ fn kept_of(alloc: Global, modules: &[ModuleTranslation<'_>]) -> Result<Kept, Fai
     requires sorted { All HasSortedNames modules.now }
 {
     let functions = functions_of(alloc, (22, 33), &[])?;
-    let transform = transform_of(alloc, modules, &functions)?;
+    let transform = transform_of(alloc, OutputFor::Default, modules, &functions)?;
     let units = Units::new(Sections::of_module(&modules[0]));
     Ok(build_dependencies(alloc, units, &transform)?)
 }

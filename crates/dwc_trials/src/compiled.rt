@@ -5,7 +5,9 @@ ghost use Rattle.dwc_addr.specs.Compilations.{lists};
 ghost use Rattle.dwc_isa.specs.ToldModules.{AreNames};
 
 use dwc_addr::{AddressTransform, Compilation, LinkageNames, ModuleMemoryOffset};
-use dwc_base::{Endian, FilePos, ModuleTranslation, StaticModuleIndex, SymbolId, Tunables};
+use dwc_base::{
+    Endian, FilePos, ModuleTranslation, OutputFor, StaticModuleIndex, SymbolId, Tunables,
+};
 use dwc_clif::{
     Architecture, CfaUnwindInfo, CompiledFunctionMetadata, FunctionAddressMap,
     InstructionAddressMap, InstructionMaps, TableIsa, ValueLabelsRanges,
@@ -18,6 +20,15 @@ const TUNABLES: Tunables = Tunables {
     page_align: 4096,
     internal_traps: false,
     dwarf_version: 4,
+    output_for: OutputFor::Default,
+};
+
+const DEBUGGER_TUNABLES: Tunables = Tunables {
+    debug_symbols: true,
+    page_align: 4096,
+    internal_traps: false,
+    dwarf_version: 4,
+    output_for: OutputFor::Debugger,
 };
 
 const NAMES: LinkageNames<'static> = LinkageNames {
@@ -98,9 +109,10 @@ pub(crate) fn framed_functions(
     Ok(functions)
 }
 
-/// The transform of a module that defines one function, which is compiled.
+/// The transform of a module that defines one function, which is compiled, for an output.
 pub(crate) fn transform_of<'a>(
     alloc: Global,
+    output_for: OutputFor,
     modules: &'a [ModuleTranslation<'a>],
     functions: &'a [Vec<(Option<SymbolId>, CompiledFunctionMetadata)>],
 ) -> Result<AddressTransform<'a>, Fail>
@@ -109,7 +121,11 @@ pub(crate) fn transform_of<'a>(
     requires sorted { All HasSortedNames modules.now }
 {
     let isa = target(alloc)?;
-    transform_over(alloc, &isa, modules, functions, &TUNABLES, NAMES)
+    let tunables = match output_for {
+        OutputFor::Default => &TUNABLES,
+        OutputFor::Debugger => &DEBUGGER_TUNABLES,
+    };
+    transform_over(alloc, &isa, modules, functions, tunables, NAMES)
 }
 
 // The transform of a module that defines one function.

@@ -6,7 +6,7 @@ ghost use Rattle.dwc_addr.specs.Compilations.{lists};
 use crate::compiled::{Functions, MapEntry, functions_of, transform_of};
 use crate::module_file::SMALL;
 use dwc_addr::AddressTransform;
-use dwc_base::{Address, ModuleTranslation};
+use dwc_base::{Address, ModuleTranslation, OutputFor};
 use dwc_wasm::split_wasm;
 use std::alloc::Global;
 use std::slice;
@@ -73,6 +73,18 @@ const RANGES_OF_TWO_RUNS: [(u64, u64, Option<&[(usize, usize)]>); 6] = [
     (0, 0xFFFF_FFFF, None),
 ];
 
+// For a debugger a range has each byte that shows a source of the interval, its end left out: codes without a source show the one before
+// them, and those in front of all the first.
+const RANGES_FOR_A_DEBUGGER: [(u64, u64, Option<&[(usize, usize)]>); 7] = [
+    (12, 17, Some(&[(0, 15), (23, 30)])),
+    (12, 18, Some(&[(0, 30)])),
+    (17, 18, Some(&[(15, 23)])),
+    (10, 12, Some(&[])),
+    (13, 17, Some(&[])),
+    (20, 10, Some(&[])),
+    (0, 20, None),
+];
+
 // Where the ranges begin and how long they are.
 const LENGTHS_OF_TWO_RUNS: [(u64, u64, &[(i64, u64)]); 4] = [
     (12, 20, &[(5, 18), (23, 7)]),
@@ -106,11 +118,23 @@ impl SmallModule {
         })
     }
 
-    /// Its transform.
+    /// Its transform, for an output.
+    pub(crate) fn transform_for(
+        &self,
+        alloc: Global,
+        output_for: OutputFor,
+    ) -> Result<AddressTransform<'_>, Fail>
+        requires { HasSortedNames self.now.translation }
+    {
+        let modules = slice::from_ref(&self.translation);
+        transform_of(alloc, output_for, modules, &self.functions)
+    }
+
+    /// Its transform, by the rules that stand by default.
     pub(crate) fn transform(&self, alloc: Global) -> Result<AddressTransform<'_>, Fail>
         requires { HasSortedNames self.now.translation }
     {
-        transform_of(alloc, slice::from_ref(&self.translation), &self.functions)
+        self.transform_for(alloc, OutputFor::Default)
     }
 }
 
@@ -185,6 +209,16 @@ fn ranges_of_two_runs(rt: HostRuntime) -> Result<(), Fail> {
     let module = SmallModule::new(rt.alloc(), TWO_RUNS)?;
     let transform = module.transform(rt.alloc())?;
     for (start, end, wanted) in &RANGES_OF_TWO_RUNS {
+        assert!(rt; becomes(&transform, *start, *end, *wanted), "{start} {end}");
+    }
+    Ok(())
+}
+
+#[test]
+fn ranges_for_a_debugger(rt: HostRuntime) -> Result<(), Fail> {
+    let module = SmallModule::new(rt.alloc(), TWO_RUNS)?;
+    let transform = module.transform_for(rt.alloc(), OutputFor::Debugger)?;
+    for (start, end, wanted) in &RANGES_FOR_A_DEBUGGER {
         assert!(rt; becomes(&transform, *start, *end, *wanted), "{start} {end}");
     }
     Ok(())
