@@ -2,6 +2,7 @@
 use Rattle.std.proofs.Common.{◌≡◌, ℕ, pos, negsuc, List, [], ◌∷◌, Some, None, true, false, refl}
 use Rattle.std.specs.Prelude.{Option, map, replicate, Bool, Result, Ok, Err}
 use Rattle.std.specs.Option.{unwrap_or}
+use Rattle.dwc_base.specs.declared.records.OutputFor.TheVariants.{Default}
 use Rattle.dwc_base.specs.Reading.{coded}
 use Rattle.dwc_native.specs.Compiled.{Place, in_register, at_frame_offset, LabelRange, Memory, no_memory, defined, imported}
 use Rattle.dwc_native.specs.Functions.{Function}
@@ -244,7 +245,7 @@ one_byte = refl
 
 -- a function with source 10 to 20 and 30 bytes, whose sources 12 and 17 stand at 5 and 15
 abbrev function : Function
-function = record { number = 0; symbol = Some 0; start = 10; end = 20; length = 30; entries = (5, Some 12) ∷ (8, None) ∷ (15, Some 17) ∷ (23, None) ∷ [] }
+function = record { output = Default; number = 0; symbol = Some 0; start = 10; end = 20; length = 30; entries = (5, Some 12) ∷ (8, None) ∷ (15, Some 17) ∷ (23, None) ∷ [] }
 
 -- what surrounds an expression in that function, by its labels and the memory of its module
 abbrev around : List (ℕ × List LabelRange) → Memory → Surroundings

@@ -8,6 +8,7 @@ use Rattle.dwc_worked.proofs.DraftsOnLiterals.{drafts_on_literals}
 use Rattle.std.specs.List.{filter}
 use Rattle.dwc_worked.proofs.Readings.{three_sections, sections_small, header_small}
 use Rattle.dwc_worked.proofs.LineTables.{segments_read, at_line, a_c, line_of_a_c}
+use Rattle.dwc_base.specs.declared.records.OutputFor.TheVariants.{Default}
 use Rattle.dwc_base.specs.declared.records.Endian.TheVariants.{Little}
 use Rattle.dwc_base.specs.declared.faults.Flaw.TheVariants.{EndsEarly, Malformed, Refused}
 use Rattle.dwc_base.specs.declared.faults.Kind.TheVariants.{Format64, Version, TypeUnit, Supplementary, Operations, AddressSize}
@@ -311,7 +312,7 @@ abbrev pub placed : ℕ → ℕ → ℕ → List (ℕ × Value) → Placed
 placed offset depth tag attributes = record { unit = 0; entry = record { offset = offset; depth = depth; tag = tag; attributes = attributes } }
 
 abbrev pub some_function : Function
-some_function = record { number = 0; symbol = Some 0; start = 2; end = 13; length = 30; entries = [] }
+some_function = record { output = Default; number = 0; symbol = Some 0; start = 2; end = 13; length = 30; entries = [] }
 
 -- a root, a subprogram with a formal parameter of a type, that type, and one that nothing names
 abbrev pub tree : List Placed

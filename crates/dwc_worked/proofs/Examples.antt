@@ -3,6 +3,7 @@ use Rattle.std.proofs.Common.{◌≡◌, ℕ, ◌+◌, ◌*◌, ◌^◌, pos, Li
 use Rattle.std.specs.Prelude.{codes}
 use Rattle.std.specs.List.{list_all}
 use Rattle.std.specs.FinMap as finite
+use Rattle.dwc_base.specs.declared.records.OutputFor.TheVariants.{Default}
 use Rattle.dwc_native.specs.Compiled.{no_memory}
 use Rattle.dwc_base.specs.Outputs.{OutputSection, function, section}
 use Rattle.dwc_isa.specs.declared.architecture.Architecture.TheVariants.{X86_64}
@@ -17,7 +18,7 @@ map_bytes_small = codes "{\"target\":{\"arch\":\"x86_64\"},\"names\":[\"set_mem\
 
 abbrev pub map_small : MapFile
 map_small = record {
-  target = record { architecture = X86_64; big_endian = false; pointer_bytes = 8; version = 4; registers = finite.empty; common_entry = None };
+  target = record { architecture = X86_64; big_endian = false; pointer_bytes = 8; version = 4; output = Default; registers = finite.empty; common_entry = None };
   set_memory = codes "set_mem";
   resolve_memory = codes "resolve_mem";
   modules =

@@ -106,7 +106,7 @@ by-itself floor b k (x ∷ xs) ys low high fits h =
 made-goes_on : (s : WrapperSource) (clone : Placed → List Draft) → ((e : Placed) → IsTrue (are_within e.entry.depth (depths (clone e)))) → (floor b : ℕ) (es : List Placed) → GoOn floor b (placed_depths es) → GoOn floor b (depths (entries_made s clone es))
 unfolding entries_made
 made-goes_on s clone good floor b [] h = tt
-made-goes_on s clone good floor b (e ∷ es) h = go (is_wrapped e) (made-goes_on s clone good floor e.entry.depth es h.2)
+made-goes_on s clone good floor b (e ∷ es) h = go (is_wrapped s.output e) (made-goes_on s clone good floor e.entry.depth es h.2)
   where
     go : (test : Bool) → GoOn floor e.entry.depth (depths (entries_made s clone es)) → GoOn floor b (depths (elim test [ true ↦ with_wrapper s e (entries_made s clone es) | false ↦ clone e ++ entries_made s clone es ]))
     go true rest = wrapped-goes_on s floor b e (entries_made s clone es) h.0 h.1 rest
@@ -127,7 +127,7 @@ root-whole k (x ∷ xs) ys is_0 fits h =
 -- What is made of a unit's kept entries in file order is in file order.
 pub entries_made-in_order : (s : WrapperSource) (clone : Placed → List Draft) (root : Placed) (es : List Placed) → KeepFileOrder s clone root es
 unfolding entries_made
-entries_made-in_order s clone root es good plain order = go (is_wrapped root) plain
+entries_made-in_order s clone root es good plain order = go (is_wrapped s.output root) plain
   where
     go : (test : Bool) → IsTrue (not test) → IsInFileOrder (elim test [ true ↦ with_wrapper s root (entries_made s clone es) | false ↦ clone root ++ entries_made s clone es ])
     go true plain = absurd (false≢true plain)
@@ -147,7 +147,7 @@ with-context c e d same = both_true (eq-eqb d.depth e.entry.depth same) (to-test
     go (Some located) = (omega arith, omega (arith, same), tt)
 
 -- What is made of a carried unit is in file order.
-pub unit-in_order : (c : ExpressionSource) (s : UnitSource) (big_endian : Bool) (root : Placed) (es : List Placed) → IsTrue (not (is_wrapped root)) → IsTrue (are_within 0 (placed_depths (root ∷ es))) → IsInFileOrder (unit_drafts c s big_endian (root ∷ es))
+pub unit-in_order : (c : ExpressionSource) (s : UnitSource) (big_endian : Bool) (root : Placed) (es : List Placed) → IsTrue (not (is_wrapped c.told.output root)) → IsTrue (are_within 0 (placed_depths (root ∷ es))) → IsInFileOrder (unit_drafts c s big_endian (root ∷ es))
 unit-in_order c s big_endian root es plain order = entries_made-in_order (wrappers_of c) (entry_made c s big_endian) root es (λ e. with-context c e (draft_told c s big_endian e) refl) plain order
 
 -- the unit of a module is in file order

@@ -3,6 +3,7 @@
 use Rattle.std.proofs.Common.{◌≡◌, ◌+◌, ℕ, pos, negsuc, List, [], ◌∷◌, map, length, Some, None, true, false, ap, arith, refl}
 use Rattle.std.specs.Prelude.{◌==◌, if◌then◌else◌, sum_by, Option, codes, replicate}
 use Rattle.std.specs.List.{flat_map}
+use Rattle.dwc_base.specs.declared.records.OutputFor.TheVariants.{Default}
 use Rattle.dwc_base.specs.declared.records.Endian.TheVariants.{Little}
 use Rattle.dwc_native.specs.Functions.{Function}
 use Rattle.dwc_base.specs.Outputs.{OutputSection}
@@ -124,7 +125,7 @@ abbrev falling : FrameDescription
 falling = a_description 30 ((4, remember_state) ∷ (2, remember_state) ∷ [])
 
 abbrev a_defined : ℕ → Option ℕ → Function
-a_defined number symbol = record { number = number; symbol = symbol; start = 2; end = 13; length = 30; entries = [] }
+a_defined number symbol = record { output = Default; number = number; symbol = symbol; start = 2; end = 13; length = 30; entries = [] }
 
 -- told for each function but the one with the number 2
 abbrev told : ℕ → Option FrameDescription

@@ -7,6 +7,7 @@ use Rattle.dwc_dwarf.specs.Trees.{Interval}
 use Rattle.dwc_native.specs.ScopesKept.{native_of_intervals}
 use Rattle.dwc_native.specs.ScopesKept.{HasDistinctSources, KeepsScope, AreNumbered, cover_byte}
 use Rattle.dwc_worked.proofs.RunCases.{a_function, two_runs}
+use Rattle.dwc_base.specs.declared.records.OutputFor.TheVariants.{Default}
 use Rattle.dwc_addr.proofs.KeepLaws.{translations-keep_scopes, made-numbered}
 
 abbrev pub small_maps : List AddressMap
@@ -17,11 +18,11 @@ small_maps =
 abbrev pub small_module : List Function
 small_module = two_runs ∷ a_function 0 None 20 30 30 ((5, Some 22) ∷ []) ∷ []
 
-is-small : functions_of 100 0 small_maps ≡ small_module
+is-small : functions_of Default 100 0 small_maps ≡ small_module
 is-small = refl
 
 small-numbered : AreNumbered small_module
-small-numbered = made-numbered 100 0 small_maps refl
+small-numbered = made-numbered Default 100 0 small_maps refl
 
 -- the interval from 12 to 17, which in each run has the code of 12, and a scope that it keeps
 abbrev pub small_interval : Interval

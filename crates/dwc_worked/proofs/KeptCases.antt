@@ -2,6 +2,7 @@
 use Rattle.std.proofs.Common.{◌≡◌, ℕ, List, [], ◌∷◌, Some, None, true, false, refl}
 use Rattle.std.specs.List.{filter}
 use Rattle.std.specs.Prelude.{Bool, Option, map, option_map}
+use Rattle.dwc_base.specs.declared.records.OutputFor.TheVariants.{Default}
 use Rattle.dwc_base.specs.declared.records.Address.TheVariants.{Constant}
 use Rattle.dwc_base.specs.declared.constants.TheConstants.{DW_AT_low_pc, DW_AT_ranges, DW_AT_sibling, DW_FORM_data4, DW_TAG_base_type, DW_TAG_compile_unit, DW_TAG_formal_parameter, DW_TAG_lexical_block, DW_TAG_member, DW_TAG_namespace, DW_TAG_structure_type, DW_TAG_subprogram, DW_TAG_variable}
 use Rattle.dwc_dwarf.specs.Values.{Value, address, constant, info_reference, range_reference, unit_reference}
@@ -16,7 +17,7 @@ use Rattle.dwc_worked.proofs.Readings.{three_sections, header_small}
 -- ---- owners: three functions, of which the second and third start at one place and the third has no symbol
 
 abbrev pub a_function : ℕ → Option ℕ → ℕ → ℕ → Function
-a_function number symbol start end = record { number = number; symbol = symbol; start = start; end = end; length = 30; entries = [] }
+a_function number symbol start end = record { output = Default; number = number; symbol = symbol; start = start; end = end; length = 30; entries = [] }
 
 abbrev pub three : List Function
 three = a_function 0 (Some 7) 2 13 ∷ a_function 1 (Some 8) 20 20 ∷ a_function 2 None 20 40 ∷ []

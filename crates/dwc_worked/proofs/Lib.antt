@@ -1,3 +1,5 @@
+pub mod ShownCases
+pub mod DebuggerOutputCases
 pub mod OnLiterals
 pub mod Numbers
 pub mod SmallModule

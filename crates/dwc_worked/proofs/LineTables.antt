@@ -4,6 +4,7 @@ use Rattle.std.specs.List.{filter}
 use Rattle.dwc_worked.proofs.OnLiterals.{lines_on_literals}
 use Rattle.dwc_worked.proofs.SmallModule.{abbreviations_small, info_small}
 use Rattle.dwc_worked.proofs.Readings.{three_sections, sections_small}
+use Rattle.dwc_base.specs.declared.records.OutputFor.TheVariants.{Default}
 use Rattle.dwc_base.specs.declared.records.Address.TheVariants.{Constant}
 use Rattle.dwc_base.specs.declared.records.Endian.TheVariants.{Little}
 use Rattle.dwc_base.specs.declared.faults.What.TheVariants.{LineTable as LineTableRead}
@@ -56,7 +57,7 @@ abbrev pub map_small : AddressMap
 map_small = record { symbol = Some 0; start = Some 22; end = Some 33; body_offset = 0; body_len = 30; entries = (5, Some 25) ∷ (8, None) ∷ (15, Some 30) ∷ (23, None) ∷ [] }
 
 abbrev pub function_small : Function
-function_small = function_of 20 0 map_small
+function_small = function_of Default 20 0 map_small
 
 good-small : map_fault 20 map_small ≡ None
 good-small = refl

@@ -2,6 +2,7 @@
 use Rattle.std.proofs.Common.{◌≡◌, ℕ, negsuc, List, [], ◌∷◌, Some, None, Ok, Err, true, false, refl}
 use Rattle.std.specs.Prelude.{Option, Result, map, replicate}
 use Rattle.std.specs.Option.{unwrap_or}
+use Rattle.dwc_base.specs.declared.records.OutputFor.TheVariants.{Default}
 use Rattle.dwc_base.specs.declared.constants.TheConstants.{DW_AT_location, DW_AT_frame_base, DW_AT_byte_size}
 use Rattle.dwc_base.specs.declared.section_name.SectionName.TheVariants.{Info, Loc}
 use Rattle.dwc_base.specs.declared.faults.What.TheVariants.{Expression as ExpressionRead}
@@ -25,7 +26,7 @@ whole_function = (2, 13) ∷ []
 
 -- two runs of it: the code of the wasm offset 5 is at 0 and again at 20, that of 11 at 10
 abbrev functions : List Function
-functions = record { number = 0; symbol = Some 0; start = 2; end = 13; length = 30; entries = (0, Some 5) ∷ (10, Some 11) ∷ (20, Some 5) ∷ [] } ∷ []
+functions = record { output = Default; number = 0; symbol = Some 0; start = 2; end = 13; length = 30; entries = (0, Some 5) ∷ (10, Some 11) ∷ (20, Some 5) ∷ [] } ∷ []
 
 -- an expression over native bytes
 abbrev on : ℕ → ℕ → ℕ → List ℕ → Location

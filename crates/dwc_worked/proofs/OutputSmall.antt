@@ -3,6 +3,7 @@ use Rattle.std.proofs.Common.{◌≡◌, ◌≢◌, ℕ, List, [], ◌∷◌, �
 use Rattle.std.specs.Prelude.{AllPairs, Contains, drop, is_some, if◌then◌else◌, ◌&&◌}
 use Rattle.std.proofs.lemmas.List.Elements.{All-cons, All-nil}
 use Rattle.std.proofs.lemmas.List.Kept.{AllPairs-cons}
+use Rattle.dwc_base.specs.declared.records.OutputFor.TheVariants.{Default}
 use Rattle.dwc_base.specs.declared.records.Endian.TheVariants.{Little}
 use Rattle.dwc_base.specs.Outputs.{OutputSection, output_sections}
 use Rattle.dwc_dwarf.specs.ReadUnits.{Unit, units}
@@ -22,7 +23,7 @@ use Rattle.dwc_native.specs.Placed.{Frame, all_placed}
 use Rattle.dwc_rules.specs.Drafts.{itself, Draft}
 use Rattle.dwc_rules.specs.DraftForests.{is_made_of}
 use Rattle.dwc_rules.specs.ScopesCarried.{scope_to_keep, CarriesScope, ScopesCarried}
-use Rattle.dwc_native.specs.ScopesKept.{IsInOneOf, cover_byte}
+use Rattle.dwc_native.specs.ScopesKept.{is_shown_in, IsInOneOf, cover_byte}
 use Rattle.dwc_dwarf.specs.Trees.{Location, TreeEntry, TreeValue, locations}
 use Rattle.dwc_native.specs.Runs.{interval_of}
 use Rattle.dwc_worked.proofs.SyntheticTrees.{context_entry}
@@ -102,13 +103,13 @@ unfolding drafts_on_literals
 texts-small = refl
 
 -- the root has no code, and the subprogram is its function whole
-no-scope : (e : Entry) → IsIn e unit_small.entries → scope_to_keep (list_source sections_small header_small) (function_small ∷ []) e ≡ None
+no-scope : (e : Entry) → IsIn e unit_small.entries → scope_to_keep Default (list_source sections_small header_small) (function_small ∷ []) (record { unit = unit_small.header.offset; entry = e }) ≡ None
 unfolding drafts_on_literals
-no-scope e (inl same) = ap (scope_to_keep (list_source sections_small header_small) (function_small ∷ [])) same
-no-scope e (inr (inl same)) = ap (scope_to_keep (list_source sections_small header_small) (function_small ∷ [])) same
+no-scope e (inl same) = ap (λ e. scope_to_keep Default (list_source sections_small header_small) (function_small ∷ []) (record { unit = unit_small.header.offset; entry = e })) same
+no-scope e (inr (inl same)) = ap (λ e. scope_to_keep Default (list_source sections_small header_small) (function_small ∷ []) (record { unit = unit_small.header.offset; entry = e })) same
 no-scope e (inr (inr none)) = absurd none
 
-carries-no_scope : (e : Entry) (out : TreeEntry) → Contains unit_small.entries e → CarriesScope (list_source sections_small header_small) (function_small ∷ []) e out
+carries-no_scope : (e : Entry) (out : TreeEntry) → Contains unit_small.entries e → CarriesScope Default (list_source sections_small header_small) (function_small ∷ []) (record { unit = unit_small.header.offset; entry = e }) out
 carries-no_scope e out among = λ scope kept. absurd (none_is scope (sym (no-scope e (contains-in unit_small.entries e among)) ∙ kept))
 
 abbrev said_at : ℕ → TreeEntry
@@ -131,7 +132,7 @@ Unnamed a = is_location_name a.0 ≡ false
 
 carries-no_location : (e : Entry) (out : TreeEntry) → Contains unit_small.entries e → CarriesLocations (expressions_of module_small unit_small) (record { unit = unit_small.header.offset; entry = e }) out
 unfolding Unnamed
-carries-no_location e out among = λ before after a plain are named last. absurd (true≢false (sym named ∙ none-named Unnamed before after e.attributes a (here e (contains-in unit_small.entries e among)) are))
+carries-no_location e out among = λ before after a plain stays are named last. absurd (true≢false (sym named ∙ none-named Unnamed before after e.attributes a (here e (contains-in unit_small.entries e among)) are))
   where
     here : (e : Entry) → IsIn e unit_small.entries → Each Unnamed e.attributes
     here e (inl same) = rw same (refl, tt)
@@ -144,6 +145,10 @@ locations-small = (tt, (((λ e among made. carries-no_location e (said_at 0) amo
 
 -- ---- the context
 
+and-none : (b : Bool) → b && false ≡ false
+and-none true = refl
+and-none false = refl
+
 -- over a scope whose labels have no place anywhere no intervals say where
 nowhere-says : (fs : List Function) (frame : Option Frame) (scope : List (ℕ × ℕ)) (labels : List ℕ) → ((function byte : ℕ) → all_placed frame labels function byte ≡ false) → SaysWhere fs frame scope labels []
 nowhere-says fs frame scope labels nowhere = record {
@@ -151,6 +156,7 @@ nowhere-says fs frame scope labels nowhere = record {
   no_more = λ f byte source among named distinct covered told. absurd (true≢false (sym covered));
   have_places = λ function byte covered. absurd (true≢false (sym covered));
   no_less = λ interval f byte source among found distinct inside told from to placed. absurd (true≢false (sym placed ∙ nowhere f.number byte));
+  exact = λ f byte for_debugger among named inside. sym (ap (λ b. is_shown_in fs scope f byte && b) (nowhere f.number byte) ∙ and-none (is_shown_in fs scope f byte));
 }
 
 -- nothing is told of the context of the function

@@ -1,6 +1,7 @@
 -- Runs, positions and translations of small functions.
 use Rattle.std.proofs.Common.{◌≡◌, ℕ, pos, List, [], ◌∷◌, Some, None, refl}
 use Rattle.std.specs.Prelude.{Option, map}
+use Rattle.dwc_base.specs.declared.records.OutputFor.TheVariants.{Default}
 use Rattle.dwc_base.specs.declared.records.Address.TheVariants.{Symbol}
 use Rattle.dwc_native.specs.Functions.{Function}
 use Rattle.dwc_dwarf.specs.Trees.{Interval}
@@ -9,7 +10,7 @@ use Rattle.dwc_worked.proofs.DraftsOnLiterals.{runs_on_literals}
 
 -- a function from wasm 10 to 20, of 30 bytes, and one whose sources fall at its last entry
 abbrev pub a_function : ℕ → Option ℕ → ℕ → ℕ → ℕ → List (ℕ × Option ℕ) → Function
-a_function number symbol start end length entries = record { number = number; symbol = symbol; start = start; end = end; length = length; entries = entries }
+a_function number symbol start end length entries = record { output = Default; number = number; symbol = symbol; start = start; end = end; length = length; entries = entries }
 
 abbrev pub one_run : Function
 one_run = a_function 0 (Some 0) 10 20 30 ((5, Some 12) ∷ (8, None) ∷ (15, Some 17) ∷ (23, None) ∷ [])

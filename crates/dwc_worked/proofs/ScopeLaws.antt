@@ -4,6 +4,7 @@ use Rattle.std.specs.Prelude.{Contains}
 use Rattle.std.specs.List.{slice_index_or}
 use Rattle.std.proofs.lemmas.List.Elements.{All-cons, All-nil}
 use Rattle.std.proofs.lemmas.List.Kept.{AllPairs-cons}
+use Rattle.dwc_base.specs.declared.records.OutputFor.TheVariants.{Default}
 use Rattle.dwc_base.specs.declared.constants.TheConstants.{DW_TAG_lexical_block, DW_TAG_pointer_type, DW_TAG_subprogram}
 use Rattle.dwc_dwarf.specs.Values.{Value}
 use Rattle.dwc_dwarf.specs.Entries.{Entry}
@@ -68,7 +69,7 @@ block attributes = an_entry DW_TAG_lexical_block attributes
 -- By its bounds, by its list, and by an empty list; not at a position alone or with nothing, and not of a pointer. A subprogram that
 -- begins in a function has none; one that begins in none has that of its list.
 scopes-to_keep :
-    map (scope_to_keep small_source small_functions)
+    map (λ e. scope_to_keep Default small_source small_functions (record { unit = 0; entry = e }))
     (block (low 5 ∷ long 5 ∷ []) ∷ block (listed 0 ∷ []) ∷ block (listed 24 ∷ []) ∷ block (low 6 ∷ []) ∷ block [] ∷ an_entry DW_TAG_pointer_type (low 5 ∷ long 5 ∷ []) ∷ an_entry DW_TAG_subprogram (low 5 ∷ long 5 ∷ [])
     ∷ an_entry DW_TAG_subprogram (low 0 ∷ listed 0 ∷ []) ∷ [])
     ≡ Some ((5, 10) ∷ []) ∷ Some ((5, 6) ∷ (10, 11) ∷ []) ∷ Some [] ∷ None ∷ None ∷ None ∷ None ∷ Some ((5, 6) ∷ (10, 11) ∷ []) ∷ []
@@ -92,10 +93,10 @@ small-among : Contains small_functions small_function
 small-among = (0, omega arith, refl)
 
 -- An entry that has the first of two sources does not carry its scope by the whole function, in which the second one is, nor by nothing.
-block-whole-refused : CarriesScope small_source small_functions (block (low 5 ∷ long 1 ∷ [])) (said_entry (said_low 0 ∷ said_high 30 ∷ [])) → ⊥
+block-whole-refused : CarriesScope Default small_source small_functions (record { unit = 0; entry = block (low 5 ∷ long 1 ∷ []) }) (said_entry (said_low 0 ∷ said_high 30 ∷ [])) → ⊥
 unfolding ranges_on_literals
 block-whole-refused carries = above-one 5 6 10 (omega arith) ((carries ((5, 6) ∷ []) refl).no_more small_function 15 10 small-among refl small-distinct refl refl)
 
-block-nothing-refused : CarriesScope small_source small_functions (block (low 5 ∷ long 1 ∷ [])) (said_entry []) → ⊥
+block-nothing-refused : CarriesScope Default small_source small_functions (record { unit = 0; entry = block (low 5 ∷ long 1 ∷ []) }) (said_entry []) → ⊥
 unfolding ranges_on_literals
 block-nothing-refused carries = let missing : false ≡ true = (carries ((5, 6) ∷ []) refl).no_less (5, 6) small_function 5 5 (0, omega arith, refl) refl small-distinct (omega arith) refl (omega arith) (omega arith) in cc

@@ -2,6 +2,7 @@
 use Rattle.std.proofs.Common.{ℕ, pos, List, [], ◌∷◌, Some, None, true, false}
 use Rattle.std.specs.Prelude.{◌==◌, Bool, Option, codes}
 use Rattle.std.specs.Option.{unwrap_or}
+use Rattle.dwc_base.specs.declared.records.OutputFor.TheVariants.{Default}
 use Rattle.dwc_base.specs.declared.records.Address.TheVariants.{Symbol}
 use Rattle.dwc_base.specs.Reading.{coded}
 use Rattle.dwc_native.specs.Functions.{Function}
@@ -41,7 +42,7 @@ told_with a i l = record (module_with a i l) { told = told_small }
 
 -- a function by its number, if it has a symbol, its start, end, length and entries
 abbrev pub a_function : Option ℕ → ℕ → ℕ → ℕ → List (ℕ × Option ℕ) → Function
-a_function symbol start end length entries = record { number = unwrap_or symbol 0; symbol = symbol; start = start; end = end; length = length; entries = entries }
+a_function symbol start end length entries = record { output = Default; number = unwrap_or symbol 0; symbol = symbol; start = start; end = end; length = length; entries = entries }
 
 -- One that the small module's subprogram begins in, one without a symbol, one without code and recorded source, and one with labels.
 abbrev pub last_function : Function

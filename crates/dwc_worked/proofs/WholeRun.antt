@@ -6,6 +6,7 @@ use Rattle.std.specs.Ordering.{nat_cmp}
 use Rattle.std.specs.FinMap as finite
 use Rattle.std.specs.FinMap.{get-empty, len-empty, len-entries}
 use Rattle.std.specs.Prelude.{All, codes}
+use Rattle.dwc_base.specs.declared.records.OutputFor.TheVariants.{Default}
 use Rattle.dwc_worked.proofs.OnLiterals.{files_on_literals}
 use Rattle.dwc_worked.proofs.DraftsOnLiterals.{drafts_on_literals}
 use Rattle.dwc_worked.proofs.NamesOnLiterals.{functions_on_literals, names_on_literals}
@@ -120,12 +121,13 @@ unframed a (suc place) = refl
 
 -- so much is told of the module at a place, with the frames of its functions
 abbrev pub told_framed : LinkageNames → ℕ → Memory → (ℕ → Option FrameDescription) → ToldModule
-told_framed names place memory frames = record { place = place; values = λ function label. []; labels = λ function. []; frames = frames; memory = memory; register = λ r. None; names = names }
+told_framed names place memory frames = record { output = Default; place = place; values = λ function label. []; labels = λ function. []; frames = frames; memory = memory; register = λ r. None; names = names }
 
 -- where the function of the module has a number
 pub told-framed : (names : LinkageNames) (place number : ℕ) (a : AddressMap) (frame : Option FrameDescription) (memory : Memory) (path : Option (List ℕ))
-    → told_of finite.empty names place number (record { functions = bare_function a frame ∷ []; memory = memory; path = path }) ≡ told_framed names place memory (frames_from number (frame ∷ []))
+    → told_of Default finite.empty names place number (record { functions = bare_function a frame ∷ []; memory = memory; path = path }) ≡ told_framed names place memory (frames_from number (frame ∷ []))
 told-framed names place number a frame memory path = λ i. record {
+  output = Default;
   place = place;
   values = λ function label. nowhere a frame (function - number) label i;
   labels = λ function. unlabelled a frame (function - number) i;
@@ -139,7 +141,7 @@ told-framed names place number a frame memory path = λ i. record {
 abbrev pub told_bare : LinkageNames → ℕ → Memory → ToldModule
 told_bare names place memory = told_framed names place memory (λ function. None)
 
-pub told-bare : (names : LinkageNames) (place number : ℕ) (a : AddressMap) (memory : Memory) (path : Option (List ℕ)) → told_of finite.empty names place number (record { functions = bare_function a None ∷ []; memory = memory; path = path }) ≡ told_bare names place memory
+pub told-bare : (names : LinkageNames) (place number : ℕ) (a : AddressMap) (memory : Memory) (path : Option (List ℕ)) → told_of Default finite.empty names place number (record { functions = bare_function a None ∷ []; memory = memory; path = path }) ≡ told_bare names place memory
 told-bare names place number a memory path = told-framed names place number a None memory path ∙ ap (told_framed names place memory) (λ i function. unframed a (function - number) i)
 
 -- the compilation of what was read of one module, with what is told of that

@@ -2,6 +2,7 @@
 use Rattle.std.proofs.Common.{◌≡◌, ℕ, suc, List, [], ◌∷◌, map, Some, None, true, refl}
 use Rattle.std.specs.Prelude.{Option, option_map, ◌++◌, ◌==◌, if◌then◌else◌, codes}
 use Rattle.std.specs.List.{filter_map}
+use Rattle.dwc_base.specs.declared.records.OutputFor.TheVariants.{Default}
 use Rattle.dwc_dwarf.specs.Values as Values
 use Rattle.dwc_dwarf.specs.Values.{Value, unit_reference, info_reference}
 use Rattle.dwc_rules.specs.Kept.{Placed}
@@ -19,7 +20,7 @@ copied e = record { depth = e.entry.depth; tag = e.entry.tag; origin = Some (e.e
 
 -- what some entries of the unit at 0 become, all of them kept
 abbrev made_of_all : List Placed → List Draft
-made_of_all es = entries_made (record { texts = texts; entries = es; resolve_memory = codes "resolve_mem"; wasm_pointer = 7 }) copied es
+made_of_all es = entries_made (record { output = Default; texts = texts; entries = es; resolve_memory = codes "resolve_mem"; wasm_pointer = 7 }) copied es
 
 abbrev at : ℕ → ℕ → ℕ → List (ℕ × Value) → Placed
 at offset depth tag attributes = at_unit 0 offset depth tag attributes

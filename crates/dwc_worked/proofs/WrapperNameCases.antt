@@ -1,6 +1,7 @@
 -- Names of wrappers by chains of types: every kind of derived type, what ends a chain, and what cannot be read.
 use Rattle.std.proofs.Common.{◌≡◌, ℕ, List, [], ◌∷◌, map, Ok, Err, Result, refl}
 use Rattle.std.specs.Prelude.{codes}
+use Rattle.dwc_base.specs.declared.records.OutputFor.TheVariants.{Default}
 use Rattle.dwc_base.specs.declared.section_name.SectionName.TheVariants.{Info}
 use Rattle.dwc_base.specs.declared.faults.What.TheVariants.{BaseName, Text}
 use Rattle.dwc_base.specs.Sections.{Fault, unreadable}
@@ -140,7 +141,7 @@ not-reached = refl
 
 -- pointers and references alone are refused for a name
 abbrev refusals_of : ℕ → List Fault
-refusals_of tag = wrapper_refusals (record { texts = texts; entries = at 20 tag (type 60 ∷ []) ∷ at 60 0x24 (name (0xFF ∷ []) ∷ []) ∷ []; resolve_memory = []; wasm_pointer = 0 }) (at 20 tag (type 60 ∷ []))
+refusals_of tag = wrapper_refusals (record { output = Default; texts = texts; entries = at 20 tag (type 60 ∷ []) ∷ at 60 0x24 (name (0xFF ∷ []) ∷ []) ∷ []; resolve_memory = []; wasm_pointer = 0 }) (at 20 tag (type 60 ∷ []))
 
 refused-wrapped : map refusals_of (0x0F ∷ 0x10 ∷ 0x26 ∷ 0x42 ∷ []) ≡ (unreadable BaseName Info 60 ∷ []) ∷ (unreadable BaseName Info 60 ∷ []) ∷ [] ∷ [] ∷ []
 unfolding wrappers_on_literals
