@@ -14,6 +14,7 @@ import sys
 
 import check_cases
 import context_cases
+import debugger_cases
 import entry_cases
 import frame_cases
 import hostile_cases
@@ -175,6 +176,8 @@ NO_VALUE = [
     ('"x86_64"', "null"),
     ('"x86_64"', '"x86_64","big_endian":null'),
     ('"x86_64"', '"x86_64","big_endian":0'),
+    *(('"x86_64"', f'"x86_64","debugger":{value}') for value in ("null", "0", "1", '"true"', "[true]", "{}")),
+    ('"x86_64"', '"x86_64","debugger":true,"debugger":null'),
     ('"x86_64"', '"x86_64","pointer_bytes":null'),
     ('"x86_64"', '"x86_64","pointer_bytes":"8"'),
     ('"set_mem"', "null"),
@@ -225,6 +228,9 @@ ALLOWED = [
     ("[5,25]", "[4294967295,4294967294]", "BadAddressMap 0 0 CodePastBody"),
     ("[[5,25],[8,null],[15,30],[23,null]]", "[]", OWN_TEXT),
     ('"target"', '"unknown":[1.5,{"a":null}],"target"', OWN_TEXT),
+    ('"x86_64"', '"x86_64","debugger":false', OWN_TEXT),
+    ('"x86_64"', '"x86_64","debugger":1,"debugger":false', OWN_TEXT),
+    ('"target"', '"debugger":true,"target"', OWN_TEXT),
     ('"x86_64"', '"x86_64","version":4', OWN_TEXT),
     ('"x86_64"', '"x86_64","version":5', OWN_TEXT_5),
     ('"x86_64"', '"x86_64","version":3,"version":5', OWN_TEXT_5),
@@ -750,7 +756,9 @@ def main():
         line_cases(),
         listing_cases(),
     ]
-    made.append(version_cases.version_cases(Cases("versions.txt"), made))
+    standing = list(made)
+    made.append(version_cases.version_cases(Cases("versions.txt"), standing))
+    made.append(debugger_cases.debugger_cases(Cases("debugger.txt"), standing))
     if "--check" in sys.argv[1:]:
         check_cases.check([output for cases in made for output in cases.outputs])
     else:

@@ -184,14 +184,15 @@ def body_of(size):
     return bytes([0]) + bytes([1]) * (size - 2) + bytes([0x0B])
 
 
-def map_of(modules):
-    """The map of some modules by their functions. Where these have labels, it tells registers and memories too; where frames, what they share."""
+def map_of(modules, asked={}):
+    """The map of some modules by their functions, whose target has what is asked for. Where they have labels, it tells registers and memories too;
+    where frames, what these share."""
     has_labels = any("labels" in function for functions in modules for function in functions)
     registers, memory = ({"registers": [[1, 3], [2, 14]]}, {"memory": {"defined": 80}}) if has_labels else ({}, {})
     has_frames = any("frame" in function for functions in modules for function in functions)
     common = {"cie": {"code_factor": 1, "data_factor": -8, "return_register": 16, "ops": [["cfa", 7, 8]]}} if has_frames else {}
     return {
-        "target": {"arch": "x86_64", **registers, **common},
+        "target": {"arch": "x86_64", **asked, **registers, **common},
         "names": ["set_mem", "resolve_mem"],
         "modules": [{"path": f"/bench/module{i}.wasm", **memory, "functions": fs} for i, fs in enumerate(modules)],
     }
@@ -468,6 +469,20 @@ def blocks_module(count):
     return one_function(size, info, line, BLOCKS, [[3 * i, 2 * i] for i in range(count)], 3 * count)
 
 
+def apart_module(count):
+    """A function of so many recorded sources, which lie at its begin and at its end in turn, with as many blocks of the code between."""
+    size = count + 8
+
+    def info(start):
+        blocks = b"".join(bytes([3]) + u32(start + 4 + i) + u32(1) for i in range(count))
+        return unit_of(bytes([1]) + u32(0) + bytes([2]) + u32(start) + u32(size) + blocks + bytes([0]))
+
+    def line(start):
+        return debug_line(segment_sequence(start, 1, size))
+
+    return one_function(size, info, line, BLOCKS, [[3 * i, 1 + i % 2 * (size - 2)] for i in range(count)], 3 * count)
+
+
 def long_list_module(count):
     """The same, with one block whose range list has an interval for every second source."""
     size = 2 * count + 2
@@ -660,6 +675,7 @@ KINDS = {
     "long_text": lambda n: [long_text_module(n)],
     "nested": lambda n: [nested_module(n)],
     "blocks": lambda n: [blocks_module(n)],
+    "apart": lambda n: [apart_module(n)],
     "long_list": lambda n: [long_list_module(n)],
     "many_ranges": lambda n: [many_ranges_module(n)],
     "pointers": lambda n: [pointers_module(n)],
@@ -696,6 +712,7 @@ SIZES = {
     "long_text": [50000, 100000],
     "nested": [50000, 100000],
     "blocks": [50000, 100000],
+    "apart": [20000, 40000],
     "long_list": [100000, 200000],
     "many_ranges": [20000, 40000],
     "pointers": [50000, 100000],
@@ -713,11 +730,11 @@ SIZES = {
 }
 
 
-def write(folder, name, modules):
+def write(folder, name, modules, asked={}):
     """Writes modules with their map, and answers the paths of the map and of the modules."""
     map_path = os.path.join(folder, name + ".json")
     with open(map_path, "w") as file:
-        json.dump(map_of([functions for _, functions in modules]), file, separators=(",", ":"))
+        json.dump(map_of([functions for _, functions in modules], asked), file, separators=(",", ":"))
     paths = [map_path]
     for i, (wasm, _) in enumerate(modules):
         paths.append(os.path.join(folder, f"{name}.{i}.wasm"))
@@ -726,12 +743,12 @@ def write(folder, name, modules):
     return paths
 
 
-def make(folder, sizes):
-    """Kind, size and the paths of the map and of the modules of all that is made, by the sizes of each kind."""
+def make(folder, sizes, asked={}):
+    """Kind, size and the paths of the map and of the modules of all that is made, by the sizes of each kind and by what maps ask for."""
     os.makedirs(folder, exist_ok=True)
     for kind, numbers in sizes.items():
         for number in numbers:
-            yield kind, number, write(folder, f"{kind}_{number}", KINDS[kind](number))
+            yield kind, number, write(folder, f"{kind}_{number}", KINDS[kind](number), asked)
 
 
 def add_sizes(parser):
@@ -739,6 +756,11 @@ def add_sizes(parser):
     for kind, sizes in SIZES.items():
         parser.add_argument(f"--{kind}", type=int, nargs="*", default=sizes)
     parser.add_argument("--only", nargs="*", choices=list(KINDS), default=list(KINDS))
+    parser.add_argument("--debugger", action="store_true", help="maps ask for output for a debugger")
+
+
+def asked_of(words):
+    return {"debugger": True} if words.debugger else {}
 
 
 def sizes_of(words):
@@ -750,7 +772,7 @@ def main():
     parser.add_argument("folder")
     add_sizes(parser)
     words = parser.parse_args()
-    for _, _, paths in make(words.folder, sizes_of(words)):
+    for _, _, paths in make(words.folder, sizes_of(words), asked_of(words)):
         print(*paths)
 
 

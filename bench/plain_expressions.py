@@ -241,12 +241,14 @@ def runs_of_labels(ranges, labels, frame):
 
 @dataclass
 class Machine:
-    """What the code of a module runs on: the DWARF numbers of registers, and where the context pointer says that the memory is."""
+    """What the code of a module runs on: the DWARF numbers of registers, and where the context pointer says that the memory is; and whether
+    the output is for a debugger."""
 
     module: int
     function_at: object
     registers: dict
     memory: dict | None
+    for_debugger: bool = False
 
     def register(self, number):
         if number not in self.registers:

@@ -201,10 +201,10 @@ def base_types(unit):
     return made
 
 
-def root(directory, name, listed):
+def root(directory, name, listed, machine):
     whole = [(f, 0, f.length) for _, _, _, f in listed if f.length > 0]
     attributes = {AT_PRODUCER: text("wasmtime"), AT_LANGUAGE: constant(DATA2, C11), AT_NAME: ("text", name), AT_STMT_LIST: ("lines",)}
-    return Made(0, TAG_COMPILE_UNIT, attributes | {AT_COMP_DIR: ("text", directory), AT_RANGES: ("ranges", whole)})
+    return Made(0, TAG_COMPILE_UNIT, attributes | {AT_COMP_DIR: ("text", directory)} | plain_ranges.list_base(TAG_COMPILE_UNIT, machine) | {AT_RANGES: ("ranges", whole)})
 
 
 def named_or(name, other):
@@ -222,7 +222,7 @@ def function_made(told, place, function):
 
 def located(function, machine, label):
     """Where a label lies over the source of its function."""
-    native = plain_ranges.translated_intervals([(function.start, function.end)], machine.function_at)
+    native = plain_ranges.translated_intervals(function.scope, machine.function_at)
     return ("locations", built(Compiled((Local(label, True),), False), native, function, machine)[0])
 
 
@@ -259,7 +259,7 @@ def last_unit(paths, next_id, tolds, maps, begun):
     if name in (b"", b".", b".."):
         raise Refused("Path")
     listed, unit = list(listed_functions(tolds, maps, begun)), "the last unit"
-    tree = [root(directory, name, listed), *base_types(unit)]
+    tree = [root(directory, name, listed, maps[0][1]), *base_types(unit)]
     for told, machine, place, function in listed:
         tree.append(function_made(told, place, function))
         for label in sorted(function.labels):

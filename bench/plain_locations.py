@@ -95,7 +95,7 @@ def in_force(sections, unit, entry, above, function_at):
     scope, frame, base = above.scope, above.frame, above.base
     function = function_begun(sections, unit, entry, function_at)
     if function:
-        scope, frame = [(function.start, function.end)], function
+        scope, frame = function.scope, function
     elif entry.tag != TAG_SUBPROGRAM and (entry.value(AT_HIGH_PC) or entry.value(AT_RANGES)):
         scope = extent(sections, unit, entry)[0]
     return InForce(scope, frame, own_base(entry) or base)

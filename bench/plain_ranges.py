@@ -128,6 +128,33 @@ def runs_of(function):
     return [Run(wasm, wasm_end, start, end, list(joined(piece))) for piece, (wasm, start), (wasm_end, end) in zip(pieces, starts, ends)]
 
 
+# ---- sources that are shown
+
+
+@cache
+def shown_pieces(function):
+    """The native code of a function as pieces of one shown source each: from its start on the last recorded source at or below, and before
+    any the first; of a function without a recorded source its start."""
+    sources = function.sources or [(0, function.start)]
+    first = sources[0][1]
+    pieces = [[0, first]]
+    for native, wasm in sources:
+        pieces.append([native, wasm])
+    ends = [native for native, _ in pieces[1:]] + [function.length]
+    return [(native, min(end, function.length), wasm) for (native, wasm), end in zip(pieces, ends) if native < min(end, function.length)]
+
+
+def exact_ranges(function, begin, end):
+    """The native code at which a source of an interval is shown, whose end is none of it, as ranges that do not touch."""
+    ranges = []
+    for start, stop, wasm in shown_pieces(function):
+        if begin <= wasm < end:
+            if ranges and ranges[-1][1] == start:
+                start = ranges.pop()[0]
+            ranges.append((start, stop))
+    return ranges
+
+
 # ---- translation
 
 
@@ -139,7 +166,9 @@ def native_offset(function, address):
 
 
 def native_ranges(function, begin, end):
-    """The native code of an interval of the wasm code in a function, in order."""
+    """The native code of an interval of the wasm code in a function, in order; for a debugger exact at each byte."""
+    if function.for_debugger:
+        return exact_ranges(function, begin, end)
     runs = [run for run in runs_of(function) if run.wasm_start < end and begin <= run.wasm_end]
     ranges = [(run.start_of(begin), run.end_of(end)) for run in runs if begin < end]
     return [(start, stop) for start, stop in ranges if start < stop]
@@ -164,8 +193,14 @@ def bounds(function, start, end):
     return {AT_LOW_PC: ("address", function, start), AT_HIGH_PC: ("constant", UDATA, end - start)}
 
 
-def range_attributes(sections, unit, entry, function_at):
+def list_base(entry_tag, machine):
+    """For a debugger what the list of a root counts from."""
+    return {AT_LOW_PC: ("address", None, 0)} if machine.for_debugger and entry_tag == TAG_COMPILE_UNIT else {}
+
+
+def range_attributes(sections, unit, entry, machine):
     """The attributes that say where the code of an entry is. A subprogram that begins in a function has that function whole."""
+    function_at = machine.function_at
     function = function_begun(sections, unit, entry, function_at)
     if function:
         return bounds(function, 0, function.length)
@@ -176,4 +211,4 @@ def range_attributes(sections, unit, entry, function_at):
     native = translated_intervals(intervals, function_at)
     if len(native) == 1 and entry.tag != TAG_COMPILE_UNIT:
         return bounds(*native[0])
-    return {AT_RANGES: ("ranges", native)} if intervals else {}
+    return list_base(entry.tag, machine) | {AT_RANGES: ("ranges", native)} if intervals else {}

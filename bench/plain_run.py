@@ -17,7 +17,7 @@ from plain_locations import CONTEXT, is_location, locations_of
 from plain_own_units import own_unit
 from plain_spelling import write_units
 from plain_trees import Carried, entries_in_force, tree_of
-from plain_wrappers import KINDS
+from plain_wrappers import is_wrapped
 
 DROPPED = (0, 0xFFFFFFFF)
 NOT_PLACED = (AT_LOW_PC, AT_HIGH_PC, AT_RANGES, AT_FRAME_BASE, AT_STMT_LIST, *DROPPED_NAMES)  # no expression of these names is built
@@ -49,24 +49,30 @@ class Function:
     length: int
     entries: list  # pairs of a native offset and the wasm offset of its source, or None
     labels: dict  # the ranges of each value, with a start, an end and a place: `reg` or `cfa`, and a number
+    for_debugger: bool = False  # whether the output is for a debugger
 
     @property
     def sources(self):
         return [(native, wasm) for native, wasm in self.entries if wasm is not None]
 
+    @property
+    def scope(self):
+        """Its source whole, as a scope. A debugger leaves the end of an interval out, so its last source lies before that."""
+        return [(self.start, self.end + 1 if self.for_debugger else self.end)]
+
 
 def read_map(data, codes):
     """What is told, and of each module the functions, with wasm offsets in place of those of the file, and what their code runs on."""
     value, number, modules = json.loads(data), 0, []
-    registers = dict(value["target"].get("registers", []))
+    registers, for_debugger = dict(value["target"].get("registers", [])), value["target"].get("debugger", False)
     for i, (told, code) in enumerate(zip(value["modules"], codes)):
         functions = []
         for f in told["functions"]:
             entries = [(native, None if place is None else place - code) for native, place in f["map"]]
             labels = {label: [(start, end, tuple(place)) for start, end, *place in ranges] for label, ranges in f.get("labels", [])}
-            functions.append(Function(number, f["symbol"], f["start"] - code, f["end"] - code, f["body_len"], entries, labels))
+            functions.append(Function(number, f["symbol"], f["start"] - code, f["end"] - code, f["body_len"], entries, labels, for_debugger))
             number += 1
-        modules.append((functions, Machine(i, partial(function_at, functions), registers, told.get("memory"))))
+        modules.append((functions, Machine(i, partial(function_at, functions), registers, told.get("memory"), for_debugger)))
     return value, modules
 
 
@@ -568,9 +574,22 @@ def source_of(function, byte):
     return next((wasm for native, wasm in reversed(function.entries) if native <= byte), None)
 
 
+def shown_source(function, byte):
+    """The source that is shown at a byte: that of the last entry with one at or below it, before any the first, and the function's start where
+    there is none."""
+    below = [wasm for native, wasm in function.sources if native <= byte]
+    return below[-1] if below else function.sources[0][1] if function.sources else function.start
+
+
+def is_shown_in(function, intervals, at, byte):
+    """Whether the source that is shown at a byte lies in one of the intervals that begin in its function, whose ends are left out."""
+    return any(begin <= shown_source(function, byte) < end and at(begin) is function for begin, end in intervals)
+
+
 def check_scopes(map_bytes, modules):
     """Whether entries with intervals have the native code whose source is in these, and none whose source is outside. Said of
-    functions of which no two sources stand at one native offset, and not of subprograms that have their function whole."""
+    functions of which no two sources stand at one native offset, and not of subprograms that have their function whole. For a debugger they
+    have exactly the bytes at which a source of these is shown."""
     for functions, carried in carried_of(map_bytes, modules):
         at = carried.machine.function_at
         for entry in carried.entries:
@@ -582,6 +601,10 @@ def check_scopes(map_bytes, modules):
 
 
 def check_scope(function, intervals, at, native):
+    if function.for_debugger:
+        for byte in bytes_of(function):
+            assert any(start <= byte < end for start, end in native) == is_shown_in(function, intervals, at, byte)
+        return
     if len({n for n, _ in function.sources}) < len(function.sources):
         return
     for byte in bytes_of(function):
@@ -598,7 +621,7 @@ def uses_of(carried):
     for entry, given in entries_in_force(carried):
         if entry.tag == TAG_SUBPROGRAM and given.scope:
             yield CONTEXT, given.scope, given.frame
-        if entry.tag in KINDS:
+        if is_wrapped(carried, entry):
             continue
         values = [value for name, value in entry.attributes if is_location(value) and (value[0] != "expression" or name not in NOT_PLACED)]
         for value in values:
@@ -623,6 +646,11 @@ def check_locations(map_bytes, modules):
 
 
 def check_location(function, scope, at, native, labels, is_frame):
+    if function.for_debugger:
+        for byte in bytes_of(function):
+            is_placed = all(is_frame and place_at(function, label, byte) is not None for label in labels)
+            assert any(start <= byte < end for start, end in native) == (is_placed and is_shown_in(function, scope, at, byte))
+        return
     if len({n for n, _ in function.sources}) < len(function.sources):
         return
     for byte in bytes_of(function):

@@ -3,14 +3,14 @@
 from dataclasses import dataclass
 
 from plain_entries import AT_CALL_FILE, AT_DECL_FILE, AT_ENDIANITY, AT_HIGH_PC, AT_LOCATION, AT_LOW_PC, AT_NAME, AT_RANGES, AT_STMT_LIST, AT_TYPE
-from plain_entries import DROPPED_NAMES, TAG_BASE_TYPE, TAG_SUBPROGRAM, TAG_VARIABLE, address_of, is_range_list, target_of, text_of
+from plain_entries import AT_CONTAINING_TYPE, AT_VTABLE_LOCATION, DROPPED_NAMES, TAG_BASE_TYPE, TAG_POINTER_TO_MEMBER, TAG_SUBPROGRAM, TAG_VARIABLE, address_of, is_range_list, target_of, text_of
 from plain_expressions import Machine
 from plain_locations import InForce, context_locations, in_force, is_location, location_made, read_location
 from plain_made import DATA1, UDATA, Made, constant, in_section, text
 from plain_own_units import CONTEXT_POINTER
 from plain_pointers import names_pointer, object_pointers, unlike_this
 from plain_ranges import intervals_of, range_attributes, translated_address, translated_intervals
-from plain_wrappers import KINDS, wrapper
+from plain_wrappers import is_wrapped, wrapper
 
 
 @dataclass
@@ -76,12 +76,19 @@ def entries_in_force(carried):
         yield entry, above[entry.depth]
 
 
+def is_gone(carried, entry, name):
+    """Whether an attribute that was read goes, as it leads a debugger to take a wrapper for a pointer."""
+    if not carried.machine.for_debugger:
+        return False
+    return name == AT_VTABLE_LOCATION or name == AT_CONTAINING_TYPE and entry.tag != TAG_POINTER_TO_MEMBER
+
+
 def entry_made(carried, entry, given, emitted, is_big):
     """What an entry becomes that is not wrapped."""
-    attributes = range_attributes(carried.sections, carried.unit, entry, carried.machine.function_at)
+    attributes = range_attributes(carried.sections, carried.unit, entry, carried.machine)
     for name, value in entry.attributes:
         made = value_made(carried, entry, given, emitted, name, value)
-        if made is not None:
+        if made is not None and not is_gone(carried, entry, name):
             attributes[name] = made
     if is_big and entry.tag == TAG_BASE_TYPE:
         attributes[AT_ENDIANITY] = constant(DATA1, 2)
@@ -99,7 +106,7 @@ def context_variable(carried, entry, given):
 
 def read_alone(carried, entry, given, emitted):
     """Reads the attributes of a wrapped entry, of which nothing is built."""
-    range_attributes(carried.sections, carried.unit, entry, carried.machine.function_at)
+    range_attributes(carried.sections, carried.unit, entry, carried.machine)
     for name, value in entry.attributes:
         if is_location(value) and name not in DROPPED_NAMES and name != AT_STMT_LIST:
             read_location(carried.sections, carried.unit, entry, given, name, value)
@@ -112,7 +119,7 @@ def tree_of(carried, emitted, is_big, resolve_name):
     tree, behind, pointers = [], [], object_pointers(carried)
     for entry, given in entries_in_force(carried):
         close(tree, behind, entry.depth)
-        if entry.tag in KINDS:
+        if is_wrapped(carried, entry):
             read_alone(carried, entry, given, emitted)
             made, others = wrapper(carried, entry, resolve_name)
             tree += made

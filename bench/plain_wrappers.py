@@ -3,13 +3,23 @@ such an address, with functions that make native pointers of it. (This project's
 
 from plain_entries import AT_ARTIFICIAL, AT_BYTE_SIZE, AT_LINKAGE_NAME, AT_MEMBER_LOCATION, AT_NAME, AT_TYPE, Refused, target_of, text_of
 from plain_entries import TAG_ARRAY_TYPE, TAG_CONST_TYPE, TAG_FORMAL_PARAMETER, TAG_MEMBER, TAG_POINTER_TYPE, TAG_REFERENCE_TYPE, TAG_STRUCTURE_TYPE
-from plain_entries import TAG_SUBPROGRAM, TAG_TEMPLATE_TYPE
+from plain_entries import TAG_RVALUE_REFERENCE, TAG_SUBPROGRAM, TAG_TEMPLATE_TYPE
 from plain_made import DATA1, Made, constant, in_section, in_unit, text
 from plain_own_units import WASM_POINTER
 
 KINDS = {TAG_POINTER_TYPE: "WebAssemblyPtrWrapper", TAG_REFERENCE_TYPE: "WebAssemblyRefWrapper"}
+KINDS_FOR_DEBUGGER = KINDS | {TAG_RVALUE_REFERENCE: "WebAssemblyRefWrapper"}
 DERIVED = {TAG_CONST_TYPE: (b"const ", b""), TAG_POINTER_TYPE: (b"", b"*"), TAG_REFERENCE_TYPE: (b"", b"&"), TAG_ARRAY_TYPE: (b"", b"[]")}
 UNKNOWN = b"??"
+
+
+def kinds(carried):
+    return KINDS_FOR_DEBUGGER if carried.machine.for_debugger else KINDS
+
+
+def is_wrapped(carried, entry):
+    """Whether an entry is wrapped: pointers and references are, for a debugger rvalue references too."""
+    return entry.tag in kinds(carried)
 
 
 def type_of(unit, entry):
@@ -65,7 +75,7 @@ def wrapper(carried, entry, resolve_name):
     to = lambda key: {AT_TYPE: in_unit(key)}
     itself, pointer, far_reference, far_pointer = [(module, entry.offset, *role) for role in ((), ("to it",), ("reference",), ("pointer",))]
     to_target = to((module, target.offset)) if target else {}
-    name = ("text", KINDS[entry.tag].encode() + b"<" + name_of_type(carried, entry) + b">")
+    name = ("text", kinds(carried)[entry.tag].encode() + b"<" + name_of_type(carried, entry) + b">")
     made = [
         Made(depth, TAG_STRUCTURE_TYPE, {AT_NAME: name, AT_BYTE_SIZE: constant(DATA1, 4)}, itself),
         Made(depth + 1, TAG_TEMPLATE_TYPE, {AT_NAME: text("T"), **to_target}),

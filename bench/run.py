@@ -1,7 +1,7 @@
 #!/usr/bin/env python3
 """Runs the built program on modules of growing size, and prints what each run takes.
 
-    run.py [PROGRAM] [--rounds N] [--only KIND ...] [--KIND N ...] [--real FOLDER]
+    run.py [PROGRAM] [--rounds N] [--only KIND ...] [--KIND N ...] [--debugger] [--real FOLDER]
 
 PROGRAM is crates/dwarfcarry/out/dwarfcarry unless it is given; the kinds are those of make_modules.py and hostile_modules.py. A row shows the status and
 the best of the rounds (one alone where it takes ten seconds): seconds, MB of wasm and of map a second, the peak memory, and the time
@@ -53,7 +53,7 @@ def measure(program, paths, out_path, rounds):
 
 def made_runs(folder, words):
     """Name, kind, size and paths of the modules that are made."""
-    for kind, number, paths in make_modules.make(folder, make_modules.sizes_of(words)):
+    for kind, number, paths in make_modules.make(folder, make_modules.sizes_of(words), make_modules.asked_of(words)):
         yield f"{kind} {number}", kind, number, paths
 
 
