@@ -247,7 +247,7 @@ def memory(value: object, where: str):
 
 target = fields(
     {"arch": one_of(*ARCHITECTURES)},
-    {"big_endian": truth, "pointer_bytes": one_of(4, 8), "version": one_of(4, 5), "registers": table_of(u16), "cie": nullable(common_entry)},
+    {"big_endian": truth, "pointer_bytes": one_of(4, 8), "version": one_of(4, 5), "debugger": truth, "registers": table_of(u16), "cie": nullable(common_entry)},
 )
 frame = fields({"len": u32, "ops": list_of(parts(u32, instruction))}, {})
 function = fields(

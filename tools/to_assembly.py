@@ -5,7 +5,8 @@ Any GNU assembler of an ELF target takes it: `cc -c debug.s` makes an object fil
 linked beside the code. PRINTED is `-` for standard input. NAMES holds the symbols of the map's functions, one a line, in the map's
 order over all modules, functions without a symbol included; without NAMES they are wasm_function_0, wasm_function_1 and so on.
 With --bases each list of .debug_ranges begins with an entry that selects the base 0. A list without one counts from its unit's
-low_pc, which dwarfcarry's units have not, and gdb 13 passes over such a list. Of version 5 there are none, and nothing is put anywhere.
+low_pc, which dwarfcarry's units have not unless the map asks for output for a debugger, and gdb 13 passes over such a list. Of
+version 5 there are none, and nothing is put anywhere.
 """
 
 import bisect
