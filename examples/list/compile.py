@@ -204,7 +204,7 @@ def map_of(path: str, module: Module, functions: list[dict]) -> dict:
     rules = [["cfa", RSP, WORD], ["offset", RETURN_ADDRESS, -WORD]]  # at the begin of each function
     cie = {"code_factor": 1, "data_factor": -WORD, "return_register": RETURN_ADDRESS, "ops": rules}
     told = {"path": path, "memory": {"defined": memory_offset(module)}, "functions": functions}
-    return {"target": {"arch": "x86_64", "cie": cie}, "names": ["set_mem", "resolve_mem"], "modules": [told]}
+    return {"target": {"arch": "x86_64", "debugger": True, "cie": cie}, "names": ["set_mem", "resolve_mem"], "modules": [told]}
 
 
 def main() -> None:

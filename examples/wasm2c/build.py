@@ -36,7 +36,7 @@ def steps(level: str) -> list[tuple[list[str], str | None]]:
         (["gcc", "-no-pie", "lines.o", "host.o", "-o", "by-offsets", *LIBRARIES], None),
         ([PYTHON, MAKER, "map", "program.wasm", "names.txt", "by-offsets"], "map.json"),
         ([DWARFCARRY, "map.json", "program.wasm"], "printed.txt"),
-        ([PYTHON, TO_ASSEMBLY, "--bases", "printed.txt", "names.txt"], "debug.s"),
+        ([PYTHON, TO_ASSEMBLY, "printed.txt", "names.txt"], "debug.s"),
         (["gcc", "-c", "debug.s"], None),
         (["objcopy", "--strip-debug", "lines.o", "code.o"], None),
         (["gcc", "-no-pie", "code.o", "debug.o", "host.o", "-o", "program", *LIBRARIES], None),

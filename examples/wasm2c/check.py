@@ -19,7 +19,7 @@ from pages import is_as_shown, run, shown_commands
 BUILT = FOLDER.parents[1] / "crates" / "dwarfcarry" / "out" / "dwarfcarry"
 # Each tool with Debian's package of it.
 TOOLS = {"clang-19": "clang-19", "wasm-ld-19": "lld-19", "llvm-dwarfdump-19": "llvm-19", "llvm-symbolizer-19": "llvm-19"}
-TOOLS |= {"wasm2c": "wabt", "gcc": "gcc", "objcopy": "binutils", "gdb": "gdb"}
+TOOLS |= {"wasm2c": "wabt", "gcc": "gcc", "objcopy": "binutils", "gdb": "gdb", "lldb": "lldb"}
 LIBRARY = ("/usr/lib/wasm32-wasi/libc.a", "wasi-libc")  # of C, for WebAssembly
 WRONG = ("wrong line", "wrong offset")
 

@@ -272,7 +272,7 @@ def map_of(module: str, names: list[str], program: str) -> dict:
     bodies = read_bodies(module)
     made = [map_function(i, body, functions[name], rows) for i, (name, body) in enumerate(zip(names, bodies, strict=True))]
     told = {"path": str(Path(module).resolve()), "memory": None if memory is None else {"defined": memory}, "functions": made}
-    return {"target": {"arch": "x86_64"}, "names": ["set_mem", "resolve_mem"], "modules": [told]}
+    return {"target": {"arch": "x86_64", "debugger": True}, "names": ["set_mem", "resolve_mem"], "modules": [told]}
 
 
 def main() -> int:
