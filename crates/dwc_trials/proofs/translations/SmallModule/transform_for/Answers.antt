@@ -5,4 +5,4 @@ use Rattle.dwc_trials.proofs.translations.SmallModule.transform_for.Goals as goa
 
 -- the one module's names are sorted
 pub transform_of-requires-clause-sorted : goal.transform_of-requires-clause-sorted
-transform_of-requires-clause-sorted c = rw c.from_ref.ensures.value (All-cons HasSortedNames _ [] c.requires (All-nil HasSortedNames))
+transform_of-requires-clause-sorted c = rw c.from_ref-modules.ensures.value (All-cons HasSortedNames _ [] c.requires (All-nil HasSortedNames))
